@@ -1,0 +1,144 @@
+-- What each call says and leaves (01, "What each call says"): the promises of load, run, report and step, for every input.
+use mathlib.Core.Path.{_≡_}
+use mathlib.Core.List.{List, [], _∷_, map}
+use mathlib.Core.Bool.{Bool, true, false}
+use Prim.Native.Nat.{ℕ, _+_, _*_, _<_, _≤_, zero, suc}
+use lib.Dec.{eqb, leb}
+use lib.ListN.{length}
+use Rattle.moore.specs.Machine.{Text, Psw, run, halt, error, State, P, p-step, ctrl-size}
+use Rattle.scope.specs.declared.Registers.{Registers}
+use Rattle.scope.specs.declared.Checked.{Checked}
+use Rattle.scope.specs.declared.Checked.the-variants.{Fine, Refused}
+use Rattle.scope.specs.declared.Loaded.{Loaded}
+use Rattle.scope.specs.declared.Ran.{Ran}
+use Rattle.scope.specs.declared.Said.{Said}
+use Rattle.scope.specs.Image.{areas, dataCells, controlLimit, temporaryLimit, temps}
+use Rattle.scope.specs.Checks.{Test, test, firstFailing, imageSays}
+use Rattle.scope.specs.Holding.{textOf, initial, Holds, statusOf, dataWords}
+use Rattle.scope.specs.States.{StateOk}
+use Rattle.scope.specs.Reach.{Report}
+use Rattle.scope.specs.declared.Cell.{Cell}
+
+-- the number and the place of a check's outcome: "load and report: done" is 0, and so is its place
+abbrev pub numberOf : Checked → ℕ
+numberOf Fine = 0
+numberOf (Refused n p) = n
+
+abbrev pub placeOf : Checked → ℕ
+placeOf Fine = 0
+placeOf (Refused n p) = p
+
+-- one check and then another: the first refusal counts
+unfoldable pub andThen : Checked → Checked → Checked
+andThen Fine k = k
+andThen (Refused n p) k = Refused n p
+
+-- ---- 18: "buffer length: 0 data, 1 temporary, 2 control, 4 report (must be A bytes); 3: load, bottom frame larger than C"
+
+abbrev pub bufferTests : List ℕ → ℕ → ℕ → ℕ → List Test → List Test
+bufferTests b d t c more =
+    test 18 0 (eqb d (8 * dataCells b))
+    ∷ test 18 1 (eqb t (8 * temporaryLimit b))
+    ∷ test 18 2 (eqb c (8 * controlLimit b))
+    ∷ more
+
+-- of buffers of d, t and c bytes, and a report of k
+unfoldable pub loadSays : List ℕ → ℕ → ℕ → ℕ → Checked
+loadSays b d t c =
+    andThen (imageSays b) (firstFailing (bufferTests b d t c (test 18 3 (leb (2 + temps b 0) (controlLimit b)) ∷ [])))
+
+unfoldable pub runSays : List ℕ → ℕ → ℕ → ℕ → Checked
+runSays b d t c = andThen (imageSays b) (firstFailing (bufferTests b d t c []))
+
+unfoldable pub reportSays : List ℕ → ℕ → ℕ → ℕ → ℕ → Checked
+reportSays b d t c k = andThen (imageSays b) (firstFailing (bufferTests b d t c (test 18 4 (eqb k (areas b)) ∷ [])))
+
+-- 19: "run and report: state not well-formed; 0", after the checks v
+pub data StateSays (v : Checked) (b : List ℕ) (r : Registers) (d t c : List ℕ) : Checked → Type 0 where
+  before : {n p : ℕ} → v ≡ Refused n p → StateSays v b r d t c (Refused n p)
+  ill-formed : v ≡ Fine → (StateOk b r d t c → ⊥) → StateSays v b r d t c (Refused 19 0)
+  well-formed : v ≡ Fine → StateOk b r d t c → StateSays v b r d t c Fine
+
+-- ---- load
+
+-- "a refused load returns zeros with status 3"
+abbrev pub noRegisters : Registers
+noRegisters = record { program = 0; offset = record { 0 = 0 }; base = 0; control = 0; temporary = 0; status = 3; error = 0 }
+
+pub record Same (d t c d′ t′ c′ : List ℕ) : Type 0 where
+  pub areas : d′ ≡ d
+  pub temporary : t′ ≡ t
+  pub control : c′ ≡ c
+
+pub record SameLengths (d t c d′ t′ c′ : List ℕ) : Type 0 where
+  pub areas : length d′ ≡ length d
+  pub temporary : length t′ ≡ length t
+  pub control : length c′ ≡ length c
+
+-- the buffers d, t and c become d′, t′ and c′
+pub record Loads (b d t c : List ℕ) (out : Loaded) (d′ t′ c′ : List ℕ) : Type 0 where
+  pub answer : out .answer ≡ numberOf (loadSays b (length d) (length t) (length c))
+  pub place : out .place ≡ placeOf (loadSays b (length d) (length t) (length c))
+  pub refused : (n p : ℕ) → loadSays b (length d) (length t) (length c) ≡ Refused n p
+      → (out .registers ≡ noRegisters) × Same d t c d′ t′ c′
+  pub done : loadSays b (length d) (length t) (length c) ≡ Fine
+      → SameLengths d t c d′ t′ c′ × Holds (out .registers) d′ t′ c′ (initial b)
+
+-- ---- run
+
+-- "The step count is the least n up to the budget after which status is not RUN, else the budget"
+pub record Count (m : Text) (s : State) (budget n : ℕ) : Type 0 where
+  pub within : n ≤ budget
+  pub before : (k : ℕ) → k < n → P m s k .psw ≡ run
+  pub least : n < budget → P m s n .psw ≡ run → ⊥
+
+-- 0 HALT, 1 "budget spent, status RUN", 2 ERROR
+abbrev pub answerOf : Psw → ℕ
+answerOf run = 1
+answerOf halt = 0
+answerOf (error c) = 2
+
+-- "A refused run returns its state and 0 steps"; "Answers 0 to 2 have place 0"
+pub record Runs (b : List ℕ) (r : Registers) (d t c : List ℕ) (budget : ℕ) (out : Ran) (d′ t′ c′ : List ℕ) : Type 0 where
+  pub said : Checked
+  pub says : StateSays (runSays b (length d) (length t) (length c)) b r d t c said
+  pub refused : (n p : ℕ) → said ≡ Refused n p
+      → (out ≡ record { answer = n; place = p; steps = 0; registers = r }) × Same d t c d′ t′ c′
+  pub ran : said ≡ Fine → (s : State) → Holds r d t c s
+      → Count (textOf b) s budget (out .steps) × (out .answer ≡ answerOf (P (textOf b) s (out .steps) .psw)) × (out .place ≡ 0)
+      × SameLengths d t c d′ t′ c′ × Holds (out .registers) d′ t′ c′ (P (textOf b) s (out .steps))
+
+-- ---- report
+
+pub record Reports (b : List ℕ) (r : Registers) (d t c k : List ℕ) (out : Said) (d′ t′ c′ k′ : List ℕ) : Type 0 where
+  pub said : Checked
+  pub says : StateSays (reportSays b (length d) (length t) (length c) (length k)) b r d t c said
+  pub answer : out .answer ≡ numberOf said
+  pub place : out .place ≡ placeOf said
+  pub same : Same d t c d′ t′ c′
+  pub refused : (n p : ℕ) → said ≡ Refused n p → k′ ≡ k
+  pub done : said ≡ Fine → (s : State) → Holds r d t c s → Report (textOf b) s k′
+
+-- ---- one step; "on anything not accepted" nothing changes
+
+pub record Steps (b : List ℕ) (r : Registers) (d t c : List ℕ) (r′ : Registers) (d′ t′ c′ : List ℕ) : Type 0 where
+  pub said : Checked
+  pub says : StateSays (runSays b (length d) (length t) (length c)) b r d t c said
+  pub refused : (n p : ℕ) → said ≡ Refused n p → (r′ ≡ r) × Same d t c d′ t′ c′
+  pub stepped : said ≡ Fine → (s : State) → Holds r d t c s
+      → SameLengths d t c d′ t′ c′ × Holds r′ d′ t′ c′ (p-step (textOf b) s)
+
+-- `number tag name value`
+abbrev pub cellLines : ℕ → List Cell → List (List ℕ)
+cellLines n [] = []
+cellLines n (c ∷ cs) = (n ∷ c .tag ∷ c .name ∷ c .value ∷ []) ∷ cellLines (suc n) cs
+
+-- `answer place steps status program offset temporary control`, after n steps to the p-state s
+abbrev pub printed : ℕ → State → List (List ℕ)
+printed n s =
+    (answerOf (s .psw) ∷ 0 ∷ n ∷ statusOf (s .psw) ∷ s .prog ∷ s .off ∷ length (s .temp) ∷ ctrl-size (s .ctrl) ∷ [])
+    ∷ cellLines 0 (dataWords (s .areas))
+
+-- "After a refusal, only the first line": a refused load
+abbrev pub printedRefusal : ℕ → ℕ → List (List ℕ)
+printedRefusal n p = (n ∷ p ∷ 0 ∷ 3 ∷ 0 ∷ 0 ∷ 0 ∷ 0 ∷ []) ∷ []

@@ -1,0 +1,138 @@
+-- The programs and the p-state that an image means, and how registers and buffers hold a p-state (01, "State and well-formedness").
+use mathlib.Core.List.{List, [], _∷_, _++_, map, reverse}
+use Prim.Native.Nat.{ℕ, _+_, _-_, zero, suc, _*_}
+use lib.ListN.{getD, length}
+use Rattle.moore.specs.Objects.{Obj, offset}
+use Rattle.moore.specs.Machine.{Ins, call, ret, push-constant, push-local, push-global, pop, pop*, pop-local, pop-global, set-local}
+use Rattle.moore.specs.Machine.{set-global, jump, jump-case, test-nat-and-jump, test-int-and-jump, test-bool-and-jump, no-op, eq}
+use Rattle.moore.specs.Machine.{add-addr, sub-addr, lt-addr, fetch, deposit, add-int, sub-int, neg-int, lt-int, int-to-nat, add-nat}
+use Rattle.moore.specs.Machine.{add1-nat, sub-nat, sub1-nat, lt-nat, or-bool, and-bool, not-bool, Program, Text, State, run, Frame, Psw}
+use Rattle.moore.specs.Machine.{halt, error, ctrl-size}
+use Rattle.scope.specs.declared.Cell.{Cell}
+use Rattle.scope.specs.Image.{programs, areas, constants, controlLimit, temporaryLimit, instructionCount, formals, temps, firstTemp}
+use Rattle.scope.specs.Image.{firstCell, areaLength, Instruction, instructionOf, constantAt, dataCellAt}
+use Rattle.scope.specs.Cells.{objectOf, bytesOf, cell, cellOf}
+use Rattle.scope.specs.Checks.{tab}
+use mathlib.Core.Path.{_≡_}
+use Rattle.scope.specs.declared.Registers.{Registers}
+
+-- "Word size is 32."
+abbrev pub wordSize : ℕ
+wordSize = 32
+
+abbrev pub object : Cell → Obj
+object c = objectOf wordSize c
+
+abbrev pub constantOf : List ℕ → ℕ → Obj
+constantOf b k = object (constantAt b k)
+
+-- the instruction of a record, for codes 1 to 36 in order
+abbrev pub insList : List ℕ → Instruction → List Ins
+insList b i =
+    (call (i .a) ∷ ret ∷ push-constant (constantOf b (i .a)) ∷ push-local (i .a) ∷ push-global (i .a) ∷ pop
+    ∷ pop* (i .a) ∷ pop-local (i .a) ∷ pop-global (i .a) ∷ set-local (i .a) ∷ set-global (i .a) ∷ jump (i .a)
+    ∷ jump-case (tab (λ k. offset (constantOf b (i .a + k))) (i .b)) ∷ test-nat-and-jump (i .condition) (i .a)
+    ∷ test-int-and-jump (i .condition) (i .a) ∷ test-bool-and-jump (i .condition) (i .a) ∷ no-op ∷ eq ∷ add-addr ∷ sub-addr
+    ∷ lt-addr ∷ fetch ∷ deposit ∷ add-int ∷ sub-int ∷ neg-int ∷ lt-int ∷ int-to-nat ∷ add-nat ∷ add1-nat
+    ∷ sub-nat ∷ sub1-nat ∷ lt-nat ∷ or-bool ∷ and-bool ∷ not-bool ∷ [])
+
+unfoldable pub insOf : List ℕ → Instruction → Ins
+insOf b i = getD (insList b i) (i .code - 1) ret
+
+-- the temps' initial values
+abbrev pub initialTemps : List ℕ → ℕ → List Obj
+initialTemps b p = tab (λ k. constantOf b (firstTemp b p + k)) (temps b p)
+
+abbrev pub programOf : List ℕ → ℕ → Program
+programOf b p =
+    record {
+      formals = formals b p;
+      temps = initialTemps b p;
+      code = tab (λ o. insOf b (instructionOf b p o)) (instructionCount b p);
+    }
+
+unfoldable pub textOf : List ℕ → Text
+textOf b =
+    record {
+      progs = tab (programOf b) (programs b);
+      consts = tab (constantOf b) (constants b);
+      max-ctrl = controlLimit b;
+      max-temp = temporaryLimit b;
+      word-size = wordSize;
+    }
+
+-- the cells of an area, as the image has them
+abbrev pub areaOf : List ℕ → ℕ → List Obj
+areaOf b a = tab (λ k. object (dataCellAt b (firstCell b a + k))) (areaLength b a)
+
+-- "Load sets pc (0,0), the data, the bottom frame with its initial temps, an empty temporary stack and RUN."
+unfoldable pub initial : List ℕ → State
+initial b =
+    record {
+      prog = 0;
+      off = 0;
+      ctrl = record { locals = initialTemps b 0; prog = 0; off = 0 } ∷ [];
+      temp = [];
+      areas = tab (areaOf b) (areas b);
+      psw = run;
+    }
+
+abbrev pub inBytes : List Cell → List ℕ
+inBytes [] = []
+inBytes (c ∷ cs) = bytesOf c ++ inBytes cs
+
+abbrev pub zeros : ℕ → List ℕ
+zeros zero = []
+zeros (suc n) = 0 ∷ zeros n
+
+-- cells from the lowest up in a buffer of n bytes; "all free stack room is zero"
+unfoldable pub buffer : ℕ → List Cell → List ℕ
+buffer n cs = inBytes cs ++ zeros (n - length (inBytes cs))
+
+-- "A frame is: return PC, NAT of the caller's frame base, formals, temps."
+abbrev pub baseOf : List Frame → ℕ
+baseOf [] = 0
+baseOf (f ∷ below) = ctrl-size below
+
+abbrev pub frameWords : Frame → List Frame → List Cell
+frameWords f below = cell 6 (f .prog) (f .off) ∷ cell 1 0 (baseOf below) ∷ map cellOf (f .locals)
+
+-- the control words, lowest first
+abbrev pub controlWords : List Frame → List Cell
+controlWords [] = []
+controlWords (f ∷ below) = controlWords below ++ frameWords f below
+
+-- the areas one behind the other
+abbrev pub dataWords : List (List Obj) → List Cell
+dataWords [] = []
+dataWords (a ∷ d) = map cellOf a ++ dataWords d
+
+-- "status (0 RUN, 1 HALT, 2 ERROR, 3 none), error code"
+abbrev pub statusOf : Psw → ℕ
+statusOf run = 0
+statusOf halt = 1
+statusOf (error c) = 2
+
+abbrev pub errorOf : Psw → ℕ
+errorOf run = 0
+errorOf halt = 0
+errorOf (error c) = c
+
+abbrev pub registersOf : State → Registers
+registersOf s =
+    record {
+      program = s .prog;
+      offset = record { 0 = s .off };
+      base = baseOf (s .ctrl);
+      control = ctrl-size (s .ctrl);
+      temporary = length (s .temp);
+      status = statusOf (s .psw);
+      error = errorOf (s .psw);
+    }
+
+-- registers r and the lent buffers, data, temporary and control, hold the p-state s; a buffer's length is its own
+pub record Holds (r : Registers) (d t c : List ℕ) (s : State) : Type 0 where
+  pub registers : r ≡ registersOf s
+  pub areas : d ≡ inBytes (dataWords (s .areas))
+  pub temporary : t ≡ buffer (length t) (map cellOf (reverse (s .temp)))
+  pub control : c ≡ buffer (length c) (controlWords (s .ctrl))

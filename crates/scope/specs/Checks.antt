@@ -10,8 +10,9 @@ use Rattle.moore.specs.Objects.{choose}
 use Rattle.scope.specs.declared.Checked.{Checked}
 use Rattle.scope.specs.declared.Checked.the-variants.{Fine, Refused}
 use Rattle.scope.specs.Cells.{Bounds, objectp}
+use Rattle.scope.specs.declared.Instruction.{Instruction}
 use Rattle.scope.specs.Image.{word, programs, areas, instructions, constants, dataCells, programField, firstInstruction}
-use Rattle.scope.specs.Image.{instructionCount, formals, temps, firstTemp, locals, firstCell, areaLength, Instruction}
+use Rattle.scope.specs.Image.{instructionCount, formals, temps, firstTemp, locals, firstCell, areaLength}
 use Rattle.scope.specs.Image.{instructionOf, constantAt, dataCellAt, kindOf, conditionsOf, operandBound}
 
 -- ---- tests in a row

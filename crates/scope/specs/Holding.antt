@@ -9,8 +9,9 @@ use Rattle.moore.specs.Machine.{add-addr, sub-addr, lt-addr, fetch, deposit, ad
 use Rattle.moore.specs.Machine.{add1-nat, sub-nat, sub1-nat, lt-nat, or-bool, and-bool, not-bool, Program, Text, State, run, Frame, Psw}
 use Rattle.moore.specs.Machine.{halt, error, ctrl-size}
 use Rattle.scope.specs.declared.Cell.{Cell}
+use Rattle.scope.specs.declared.Instruction.{Instruction}
 use Rattle.scope.specs.Image.{programs, areas, constants, controlLimit, temporaryLimit, instructionCount, formals, temps, firstTemp}
-use Rattle.scope.specs.Image.{firstCell, areaLength, Instruction, instructionOf, constantAt, dataCellAt}
+use Rattle.scope.specs.Image.{firstCell, areaLength, instructionOf, constantAt, dataCellAt}
 use Rattle.scope.specs.Cells.{objectOf, bytesOf, cell, cellOf}
 use Rattle.scope.specs.Checks.{tab}
 use mathlib.Core.Path.{_≡_}

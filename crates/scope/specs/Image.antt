@@ -3,6 +3,7 @@ use mathlib.Core.List.{List, [], _∷_}
 use Prim.Native.Nat.{ℕ, zero, suc, _+_, _*_}
 use lib.ListN.{getD}
 use Rattle.scope.specs.declared.Cell.{Cell}
+use Rattle.scope.specs.declared.Instruction.{Instruction}
 use Rattle.scope.specs.Cells.{u16At, u32At, cellFrom}
 
 -- header word k; the counts and limits by name
@@ -64,13 +65,6 @@ abbrev pub areaLength : List ℕ → ℕ → ℕ
 areaLength b a = areaField b a 1
 
 -- "Instruction, 8 bytes: code, condition, a (u16), b (u16), zero (u16)", by its number in the image
-pub record Instruction : Type 0 where
-  pub code : ℕ
-  pub condition : ℕ
-  pub a : ℕ
-  pub b : ℕ
-  pub zero : ℕ
-
 unfoldable pub instructionAt : List ℕ → ℕ → Instruction
 instructionAt b i =
     let at : ℕ = word b 8 + 8 * i in

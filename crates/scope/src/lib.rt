@@ -8,6 +8,15 @@ pub struct Cell {
     pub value: u32,
 }
 
+// An instruction: eight bytes too.
+pub struct Instruction {
+    pub code: u8,
+    pub condition: u8,
+    pub a: u16,
+    pub b: u16,
+    pub zero: u16,
+}
+
 // "An offset into an area and an offset into a program are counted apart."
 pub struct DataOffset(pub u32);
 

@@ -1,0 +1,53 @@
+-- The table, and its rule at all 256 entries by one test: the entry is the code's kind, and it is not 0 exactly at 1 to 36.
+use mathlib.Core.Path.{_≡_, refl, sym, ap, _∙_}
+use mathlib.Core.List.{List, [], _∷_}
+use mathlib.Core.Bool.{Bool, true, false, _&&_, Bool·beq}
+use Prim.Native.Nat.{ℕ, _<_, _≤_}
+use borrow.Author.Tests.{eqb-true}
+use lib.Dec.{eqb, leb, ltb}
+use lib.ListN.{getD, List·getD-eq-default}
+use Rattle.scope.specs.Image.{kindOf, conditionsOf}
+use Rattle.scope.proofs.Bools.{clash, and-both}
+use Rattle.kinds.proofs.Table.{at}
+
+unfoldable pub table : List ℕ
+table =
+    0 ∷ 2 ∷ 1 ∷ 3 ∷ 4 ∷ 5 ∷ 1 ∷ 6 ∷ 4 ∷ 5 ∷ 4 ∷ 5 ∷ 7 ∷ 8 ∷ 9 ∷ 10 ∷ 9 ∷ 1 ∷ 1 ∷ 1 ∷ 1 ∷ 1 ∷ 1 ∷ 1 ∷ 1 ∷ 1 ∷ 1 ∷ 1 ∷ 1 ∷ 1 ∷ 1 ∷ 1
+    ∷ 1 ∷ 1 ∷ 1 ∷ 1 ∷ 1 ∷ 0 ∷ 0 ∷ 0 ∷ 0 ∷ 0 ∷ 0 ∷ 0 ∷ 0 ∷ 0 ∷ 0 ∷ 0 ∷ 0 ∷ 0 ∷ 0 ∷ 0 ∷ 0 ∷ 0 ∷ 0 ∷ 0 ∷ 0 ∷ 0 ∷ 0 ∷ 0 ∷ 0 ∷ 0 ∷ 0 ∷ 0
+    ∷ 0 ∷ 0 ∷ 0 ∷ 0 ∷ 0 ∷ 0 ∷ 0 ∷ 0 ∷ 0 ∷ 0 ∷ 0 ∷ 0 ∷ 0 ∷ 0 ∷ 0 ∷ 0 ∷ 0 ∷ 0 ∷ 0 ∷ 0 ∷ 0 ∷ 0 ∷ 0 ∷ 0 ∷ 0 ∷ 0 ∷ 0 ∷ 0 ∷ 0 ∷ 0 ∷ 0 ∷ 0
+    ∷ 0 ∷ 0 ∷ 0 ∷ 0 ∷ 0 ∷ 0 ∷ 0 ∷ 0 ∷ 0 ∷ 0 ∷ 0 ∷ 0 ∷ 0 ∷ 0 ∷ 0 ∷ 0 ∷ 0 ∷ 0 ∷ 0 ∷ 0 ∷ 0 ∷ 0 ∷ 0 ∷ 0 ∷ 0 ∷ 0 ∷ 0 ∷ 0 ∷ 0 ∷ 0 ∷ 0 ∷ 0
+    ∷ 0 ∷ 0 ∷ 0 ∷ 0 ∷ 0 ∷ 0 ∷ 0 ∷ 0 ∷ 0 ∷ 0 ∷ 0 ∷ 0 ∷ 0 ∷ 0 ∷ 0 ∷ 0 ∷ 0 ∷ 0 ∷ 0 ∷ 0 ∷ 0 ∷ 0 ∷ 0 ∷ 0 ∷ 0 ∷ 0 ∷ 0 ∷ 0 ∷ 0 ∷ 0 ∷ 0 ∷ 0
+    ∷ 0 ∷ 0 ∷ 0 ∷ 0 ∷ 0 ∷ 0 ∷ 0 ∷ 0 ∷ 0 ∷ 0 ∷ 0 ∷ 0 ∷ 0 ∷ 0 ∷ 0 ∷ 0 ∷ 0 ∷ 0 ∷ 0 ∷ 0 ∷ 0 ∷ 0 ∷ 0 ∷ 0 ∷ 0 ∷ 0 ∷ 0 ∷ 0 ∷ 0 ∷ 0 ∷ 0 ∷ 0
+    ∷ 0 ∷ 0 ∷ 0 ∷ 0 ∷ 0 ∷ 0 ∷ 0 ∷ 0 ∷ 0 ∷ 0 ∷ 0 ∷ 0 ∷ 0 ∷ 0 ∷ 0 ∷ 0 ∷ 0 ∷ 0 ∷ 0 ∷ 0 ∷ 0 ∷ 0 ∷ 0 ∷ 0 ∷ 0 ∷ 0 ∷ 0 ∷ 0 ∷ 0 ∷ 0 ∷ 0 ∷ 0
+    ∷ 0 ∷ 0 ∷ 0 ∷ 0 ∷ 0 ∷ 0 ∷ 0 ∷ 0 ∷ 0 ∷ 0 ∷ 0 ∷ 0 ∷ 0 ∷ 0 ∷ 0 ∷ 0 ∷ 0 ∷ 0 ∷ 0 ∷ 0 ∷ 0 ∷ 0 ∷ 0 ∷ 0 ∷ 0 ∷ 0 ∷ 0 ∷ 0 ∷ 0 ∷ 0 ∷ 0 ∷ 0 ∷ []
+
+abbrev live : ℕ → Bool
+live code = leb 1 code && leb code 36
+
+right : ℕ → ℕ → Bool
+right code kind = eqb kind (kindOf code) && Bool·beq (ltb 0 kind) (live code)
+
+test : (code : ℕ) → code < 256 → right code (getD table code 0) ≡ true
+unfolding table right kindOf
+test code h = at right table refl code h
+
+pub entry : (code : ℕ) → code < 256 → getD table code 0 ≡ kindOf code
+unfolding right
+entry code h = eqb-true _ _ (and-both (eqb (getD table code 0) (kindOf code)) _ (test code h) .0)
+
+beq : (a b : Bool) → Bool·beq a b ≡ true → a ≡ b
+beq true true e = refl
+beq true false e = clash e
+beq false true e = clash e
+beq false false e = refl
+
+-- "kind zero exactly for 0 and 37 to 255"
+pub live-exactly : (code : ℕ) → code < 256 → ltb 0 (kindOf code) ≡ live code
+unfolding right
+live-exactly code h =
+    ap (ltb 0) (sym (entry code h)) ∙ beq _ _ (and-both (eqb (getD table code 0) (kindOf code)) _ (test code h) .1)
+
+-- past the last kind there is no condition
+pub no-conditions : (kind : ℕ) → 11 ≤ kind → 0 ≡ conditionsOf kind
+unfolding conditionsOf
+no-conditions kind h = sym (List·getD-eq-default (0 ∷ 1 ∷ 1 ∷ 1 ∷ 1 ∷ 1 ∷ 1 ∷ 1 ∷ 1 ∷ 2 ∷ 6 ∷ []) 0 {n = kind} h)

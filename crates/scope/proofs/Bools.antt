@@ -2,8 +2,10 @@
 use mathlib.Core.Path.{_≡_, refl}
 use mathlib.Core.Bool.{Bool, true, false, _&&_, _||_}
 use mathlib.Core.Logic.{_⊎_, inl, inr}
-use Prim.Native.Nat.{ℕ}
+use Prim.Native.Nat.{ℕ, _<_, _≤_}
 use native.Mathlib.Omega.{arith}
+use borrow.Author.Tests.{lt-ltb, le-ltb, le-leb, lt-leb, eq-eqb, ne-eqb}
+use lib.Dec.{ltb, leb, eqb}
 use Rattle.moore.specs.Objects.{choose}
 
 -- a Bool is not both
@@ -28,3 +30,34 @@ choose-yes c a b h = rw h
 pub choose-no : {X : Type 0} (c : Bool) (a b : X) → c ≡ false → choose c a b ≡ b
 unfolding choose
 choose-no c a b h = rw h
+
+-- ---- conjunctions clause by clause: each rule takes a goal `r ≡ (clause && rest)` one clause further
+
+pub and-lt : (x y : ℕ) (r rest : Bool) → x < y → r ≡ rest → r ≡ ltb x y && rest
+and-lt x y r rest h e = rw (lt-ltb x y h) e
+
+pub and-ge : (x y : ℕ) (rest : Bool) → y ≤ x → false ≡ ltb x y && rest
+and-ge x y rest h = rw (le-ltb x y h)
+
+pub and-le : (x y : ℕ) (r rest : Bool) → x ≤ y → r ≡ rest → r ≡ leb x y && rest
+and-le x y r rest h e = rw (le-leb x y h) e
+
+pub and-gt : (x y : ℕ) (rest : Bool) → y < x → false ≡ leb x y && rest
+and-gt x y rest h = rw (lt-leb x y h)
+
+pub and-eq : (x y : ℕ) (r rest : Bool) → x ≡ y → r ≡ rest → r ≡ eqb x y && rest
+and-eq x y r rest h e = rw (eq-eqb x y h) e
+
+pub and-ne : (x y : ℕ) (rest : Bool) → (x ≡ y → ⊥) → false ≡ eqb x y && rest
+and-ne x y rest h = rw (ne-eqb x y h)
+
+pub and-yes : (t r rest : Bool) → t ≡ true → r ≡ rest → r ≡ t && rest
+and-yes t r rest h e = rw h e
+
+pub and-no : (t rest : Bool) → t ≡ false → false ≡ t && rest
+and-no t rest h = rw h
+
+pub same : (r : Bool) → r ≡ r
+same r = refl
+
+pub ruleset clauses = (and-lt, and-ge, and-le, and-gt, and-eq, and-ne, same, arith)

@@ -12,7 +12,7 @@ use Rattle.moore.specs.Machine.{p-settle, p-step1, insAt, p-step-by, p-step, P}
 use Rattle.scope.specs.declared.Checked.the-variants.{Fine}
 use Rattle.scope.specs.Cells.{u16At, u32At, intFrom, cellOf, objectOf, rowOf, objectp, le32}
 use Rattle.scope.specs.Image.{word, programField, areaField, instructionAt, kindOf, conditionsOf, operandBound}
-use Rattle.scope.specs.Checks.{firstFailing, ranges, sections, programOk, areaOk, casesOk, ends, instructionOk, imageTests, imageSays}
+use Rattle.scope.specs.Checks.{boundsOf, programTests, areaTests, cellTests, codeTests, firstFailing, ranges, sections, programOk, areaOk, casesOk, ends, instructionOk, imageTests, imageSays}
 use Rattle.scope.specs.Holding.{insOf, textOf, initial}
 use Rattle.scope.specs.Calls.{Count, printed}
 
@@ -75,15 +75,15 @@ pub record Prints (b : List ℕ) (n : ℕ) (expected : List (List ℕ)) : Type 0
   pub lines : printed n (P (textOf b) (initial b) n) ≡ expected
 
 pub worked : Prints (image 3 2) 5 ((0 ∷ 0 ∷ 5 ∷ 1 ∷ 0 ∷ 4 ∷ 0 ∷ 2 ∷ []) ∷ (0 ∷ 1 ∷ 0 ∷ 2 ∷ []) ∷ (1 ∷ 1 ∷ 0 ∷ 9 ∷ []) ∷ [])
-unfolding imageSays imageTests firstFailing choose word u32At u16At programField areaField instructionAt kindOf conditionsOf operandBound ranges sections programOk areaOk casesOk ends instructionOk rowOf objectp intFrom cellOf objectOf insOf textOf initial program fetch-adp deposit-adp p-objectp p-objectp-type need p-ins-okp p-return p-ins-step p-settle p-step1 insAt p-step-by p-step P
+unfolding boundsOf programTests areaTests cellTests codeTests imageSays imageTests firstFailing choose word u32At u16At programField areaField instructionAt kindOf conditionsOf operandBound ranges sections programOk areaOk casesOk ends instructionOk rowOf objectp intFrom cellOf objectOf insOf textOf initial program fetch-adp deposit-adp p-objectp p-objectp-type need p-ins-okp p-return p-ins-step p-settle p-step1 insAt p-step-by p-step P
 worked = record { accepted = refl; count = counted _ _ _ 5 (omega arith) refl refl; lines = refl }
 
 -- "With NAT 0 first: answer 2, 3 steps, offset 2, 2 temporary cells."
 pub nat-0-first : Prints (image 0 2) 3 ((2 ∷ 0 ∷ 3 ∷ 2 ∷ 0 ∷ 2 ∷ 2 ∷ 2 ∷ []) ∷ (0 ∷ 1 ∷ 0 ∷ 0 ∷ []) ∷ (1 ∷ 1 ∷ 0 ∷ 9 ∷ []) ∷ [])
-unfolding imageSays imageTests firstFailing choose word u32At u16At programField areaField instructionAt kindOf conditionsOf operandBound ranges sections programOk areaOk casesOk ends instructionOk rowOf objectp intFrom cellOf objectOf insOf textOf initial program fetch-adp deposit-adp p-objectp p-objectp-type need p-ins-okp p-return p-ins-step p-settle p-step1 insAt p-step-by p-step P
+unfolding boundsOf programTests areaTests cellTests codeTests imageSays imageTests firstFailing choose word u32At u16At programField areaField instructionAt kindOf conditionsOf operandBound ranges sections programOk areaOk casesOk ends instructionOk rowOf objectp intFrom cellOf objectOf insOf textOf initial program fetch-adp deposit-adp p-objectp p-objectp-type need p-ins-okp p-return p-ins-step p-settle p-step1 insAt p-step-by p-step P
 nat-0-first = record { accepted = refl; count = counted _ _ _ 3 (omega arith) refl refl; lines = refl }
 
 -- "With T 1 instead: ERROR at step 2."
 pub t-1 : Prints (image 3 1) 2 ((2 ∷ 0 ∷ 2 ∷ 2 ∷ 0 ∷ 1 ∷ 1 ∷ 2 ∷ []) ∷ (0 ∷ 1 ∷ 0 ∷ 3 ∷ []) ∷ (1 ∷ 1 ∷ 0 ∷ 9 ∷ []) ∷ [])
-unfolding imageSays imageTests firstFailing choose word u32At u16At programField areaField instructionAt kindOf conditionsOf operandBound ranges sections programOk areaOk casesOk ends instructionOk rowOf objectp intFrom cellOf objectOf insOf textOf initial program fetch-adp deposit-adp p-objectp p-objectp-type need p-ins-okp p-return p-ins-step p-settle p-step1 insAt p-step-by p-step P
+unfolding boundsOf programTests areaTests cellTests codeTests imageSays imageTests firstFailing choose word u32At u16At programField areaField instructionAt kindOf conditionsOf operandBound ranges sections programOk areaOk casesOk ends instructionOk rowOf objectp intFrom cellOf objectOf insOf textOf initial program fetch-adp deposit-adp p-objectp p-objectp-type need p-ins-okp p-return p-ins-step p-settle p-step1 insAt p-step-by p-step P
 t-1 = record { accepted = refl; count = counted _ _ _ 2 (omega arith) refl refl; lines = refl }

@@ -99,7 +99,7 @@ allCells b = eqb (sum (areaLength b) (areas b)) (dataCells b)
 
 -- ---- 16: "constant or data cell; its number, data from K on"
 
-abbrev pub boundsOf : List ℕ → Bounds
+unfoldable pub boundsOf : List ℕ → Bounds
 boundsOf b = record { areas = areas b; areaLength = areaLength b; programs = programs b; instructionCount = instructionCount b }
 
 -- ---- 17: "instruction; its number in the image"
@@ -129,19 +129,27 @@ instructionOk b p o =
 
 -- ---- the image
 
-abbrev pub instructionTests : List ℕ → ℕ → List Test
-instructionTests b p = tab (λ o. test 17 (firstInstruction b p + o) (instructionOk b p o)) (instructionCount b p)
+unfoldable pub programTests : List ℕ → List Test
+programTests b = tab (λ p. test 14 p (programOk b p)) (programs b) ++ (test 14 (programs b) (allInstructions b) ∷ [])
+
+unfoldable pub areaTests : List ℕ → List Test
+areaTests b = tab (λ a. test 15 a (areaOk b a)) (areas b) ++ (test 15 (areas b) (allCells b) ∷ [])
+
+unfoldable pub cellTests : List ℕ → List Test
+cellTests b =
+    tab (λ k. test 16 k (objectp (boundsOf b) (constantAt b k))) (constants b)
+    ++ tab (λ k. test 16 (constants b + k) (objectp (boundsOf b) (dataCellAt b k))) (dataCells b)
+
+-- of program p
+unfoldable pub codeTests : List ℕ → ℕ → List Test
+codeTests b p = tab (λ o. test 17 (firstInstruction b p + o) (instructionOk b p o)) (instructionCount b p)
 
 unfoldable pub imageTests : List ℕ → List Test
 imageTests b =
     (test 11 0 (lengthOk b) ∷ [])
     ++ (ranges b
     ++ (sections b
-    ++ ((tab (λ p. test 14 p (programOk b p)) (programs b) ++ (test 14 (programs b) (allInstructions b) ∷ []))
-    ++ ((tab (λ a. test 15 a (areaOk b a)) (areas b) ++ (test 15 (areas b) (allCells b) ∷ []))
-    ++ ((tab (λ k. test 16 k (objectp (boundsOf b) (constantAt b k))) (constants b)
-    ++ tab (λ k. test 16 (constants b + k) (objectp (boundsOf b) (dataCellAt b k))) (dataCells b))
-    ++ concat (tab (instructionTests b) (programs b)))))))
+    ++ (programTests b ++ (areaTests b ++ (cellTests b ++ concat (tab (codeTests b) (programs b)))))))
 
 -- what is said of an image
 unfoldable pub imageSays : List ℕ → Checked

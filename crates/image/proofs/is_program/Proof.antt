@@ -1,0 +1,15 @@
+use Rattle.scope.proofs.Bools.{clauses}
+use borrow.Author.Needs.{needs}
+use Rattle.image.proofs.is_program.Statement.{statement}
+use Rattle.image.proofs.is_program.Tie as tie
+use Rattle.image.proofs.is_program.Reads as reads
+use Rattle.image.proofs.is_program.Lts as lts
+
+returns : tie.Need-returns
+returns c = search clauses
+
+returns-2 : tie.Need-returns-2
+returns-2 c = search clauses
+
+pub is-program-spec : {M : Type 1} → statement M
+is-program-spec = tie.close (tie.spec returns returns-2)

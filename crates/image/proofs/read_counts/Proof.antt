@@ -1,0 +1,43 @@
+use borrow.Author.Needs.{needs}
+use Rattle.image.proofs.read_counts.Statement.{statement}
+use Rattle.image.proofs.read_counts.Tie as tie
+use Rattle.image.proofs.read_counts.Reads as reads
+use Rattle.image.proofs.read_counts.Lts as lts
+use Rattle.image.proofs.wide_word.Reads as wide-word-reads
+
+wide-word-requires : tie.Need-wide-word-requires
+wide-word-requires c κs = search needs
+
+wide-word-requires-2 : tie.Need-wide-word-requires-2
+wide-word-requires-2 c κs = search needs
+
+wide-word-requires-3 : tie.Need-wide-word-requires-3
+wide-word-requires-3 c κs = search needs
+
+wide-word-requires-4 : tie.Need-wide-word-requires-4
+wide-word-requires-4 c κs = search needs
+
+wide-word-requires-5 : tie.Need-wide-word-requires-5
+wide-word-requires-5 c κs = search needs
+
+wide-word-requires-6 : tie.Need-wide-word-requires-6
+wide-word-requires-6 c κs = search needs
+
+wide-word-requires-7 : tie.Need-wide-word-requires-7
+wide-word-requires-7 c κs = search needs
+
+returns : tie.Need-returns
+returns c = cc
+
+pub read-counts-spec : {M : Type 1} → statement M
+read-counts-spec =
+    tie.close
+    (tie.spec
+    wide-word-requires
+    wide-word-requires-2
+    wide-word-requires-3
+    wide-word-requires-4
+    wide-word-requires-5
+    wide-word-requires-6
+    wide-word-requires-7
+    returns)

@@ -51,13 +51,22 @@ and-eq x y r rest h e = rw (eq-eqb x y h) e
 pub and-ne : (x y : ℕ) (rest : Bool) → (x ≡ y → ⊥) → false ≡ eqb x y && rest
 and-ne x y rest h = rw (ne-eqb x y h)
 
-pub and-yes : (t r rest : Bool) → t ≡ true → r ≡ rest → r ≡ t && rest
-and-yes t r rest h e = rw h e
+-- a test that a call made: its flag is the clause's
+pub and-flag : (f t r rest : Bool) → f ≡ t → f ≡ true → r ≡ rest → r ≡ t && rest
+and-flag f t r rest p q e = let h : t ≡ true = cc in rw h e
 
-pub and-no : (t rest : Bool) → t ≡ false → false ≡ t && rest
-and-no t rest h = rw h
+pub and-flag-no : (f t rest : Bool) → f ≡ t → f ≡ false → false ≡ t && rest
+and-flag-no f t rest p q = let h : t ≡ false = cc in rw h
+
+pub choose-eq : (x y : ℕ) (r a b : Bool) → x ≡ y → r ≡ a → r ≡ choose (eqb x y) a b
+unfolding choose
+choose-eq x y r a b h e = rw (eq-eqb x y h) e
+
+pub choose-ne : (x y : ℕ) (r a b : Bool) → (x ≡ y → ⊥) → r ≡ b → r ≡ choose (eqb x y) a b
+unfolding choose
+choose-ne x y r a b h e = rw (ne-eqb x y h) e
 
 pub same : (r : Bool) → r ≡ r
 same r = refl
 
-pub ruleset clauses = (and-lt, and-ge, and-le, and-gt, and-eq, and-ne, same, arith)
+pub ruleset clauses = (and-lt, and-ge, and-le, and-gt, and-eq, and-ne, and-flag, and-flag-no, choose-eq, choose-ne, same, arith)

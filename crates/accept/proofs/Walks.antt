@@ -1,0 +1,120 @@
+-- Loops over the records of a section: every earlier record passed, and the earlier counts add up.
+use mathlib.Core.Path.{_≡_, refl, sym, ap, _∙_, subst}
+use mathlib.Core.List.{List, [], _∷_, _++_}
+use mathlib.Core.Bool.{Bool, true, false}
+use Prim.Native.Nat.{ℕ, zero, suc, _+_, _*_, _<_, _≤_}
+use native.Mathlib.Omega.{arith}
+use native.Mathlib.Decide.{ℕ-discrete}
+use borrow.Author.Count.{below-more}
+use borrow.Author.Tests.{eq-eqb, ne-eqb}
+use lib.Dec.{eqb}
+use Rattle.moore.specs.Objects.{choose}
+use Rattle.scope.specs.declared.Checked.{Checked}
+use Rattle.scope.specs.declared.Checked.the-variants.{Fine, Refused}
+use Rattle.scope.specs.Image.{programs, areas, instructions, dataCells, instructionCount, areaLength}
+use Rattle.scope.specs.Checks.{Test, test, firstFailing, tab, sum, programOk, programTests, areaOk, areaTests}
+use Rattle.image.specs.declared.Counts.{Counts}
+use Rattle.image.specs.Laid.{Counted}
+use Rattle.accept.specs.Facts.{Walk}
+
+-- ---- tests of a table
+
+-- every test below n holds: what is left
+pub tab-over : (f : ℕ → Test) (n : ℕ) (rest : List Test) → ((k : ℕ) → k < n → f k .holds ≡ true)
+    → firstFailing (tab f n ++ rest) ≡ firstFailing rest
+unfolding firstFailing choose
+tab-over f zero rest h = refl
+tab-over f (suc n) rest h = rw (h 0 (omega arith)) (tab-over (λ i. f (suc i)) n rest (λ k l. h (suc k) (omega arith)))
+
+-- the first that does not hold
+pub tab-stop : (f : ℕ → Test) (n i : ℕ) (rest : List Test) → i < n → ((k : ℕ) → k < i → f k .holds ≡ true) → f i .holds ≡ false
+    → firstFailing (tab f n ++ rest) ≡ Refused (f i .number) (f i .place)
+unfolding firstFailing choose
+tab-stop f zero i rest l h e = absurd (omega arith)
+tab-stop f (suc n) zero rest l h e = rw e
+tab-stop f (suc n) (suc i) rest l h e =
+    rw (h 0 (omega arith)) (tab-stop (λ k. f (suc k)) n i rest (omega arith) (λ k m. h (suc k) (omega arith)) e)
+
+-- ---- the walk
+
+pub walk-start : (ok : ℕ → Bool) (f : ℕ → ℕ) (n : ℕ) → Walk ok f n 0 0
+walk-start ok f n = record { within = omega arith; total = refl; low = omega arith; passed = λ k l. absurd (omega arith) }
+
+pub walk-next : (ok : ℕ → Bool) (f : ℕ → ℕ) (n p earlier x : ℕ) (g : Bool) → Walk ok f n p earlier → p < n → g ≡ ok p → g ≡ true → x ≡ f p
+    → x < 65536 → Walk ok f n (p + 1) (earlier + x)
+walk-next ok f n p earlier x g w l e t q b =
+    record {
+      within = omega arith;
+      total = let a : p + 1 ≡ suc p = omega arith in rw a (cc (w .total));
+      low = omega (arith, w .low);
+      passed = below-more (λ (k : ℕ). ok k ≡ true) p (w .passed) (sym e ∙ t);
+    }
+
+-- ---- a section of records with its sum
+
+module _ (num : ℕ) (ok : ℕ → Bool) (f : ℕ → ℕ) (n all : ℕ) where
+  section : List Test
+  section = tab (λ p. test num p (ok p)) n ++ (test num n (eqb (sum f n) all) ∷ [])
+
+  section-stop : (p earlier : ℕ) → Walk ok f n p earlier → p < n → ok p ≡ false → firstFailing section ≡ Refused num p
+  unfolding section
+  section-stop p earlier w l e = tab-stop (λ k. test num k (ok k)) n p _ l (w .passed) e
+
+  ended : (p earlier : ℕ) → Walk ok f n p earlier → n ≤ p → (earlier ≡ sum f n) × ((k : ℕ) → k < n → ok k ≡ true)
+  ended p earlier w l = let e : p ≡ n = omega (arith, w .within) in (w .total ∙ ap (sum f) e, λ k m. w .passed k (omega arith))
+
+  section-fine : (p earlier : ℕ) → Walk ok f n p earlier → n ≤ p → earlier ≡ all → firstFailing section ≡ Fine
+  unfolding section firstFailing choose
+  section-fine p earlier w l e =
+      let h = ended p earlier w l in
+      tab-over (λ k. test num k (ok k)) n _ (h .1) ∙ rw (eq-eqb (sum f n) all (sym (h .0) ∙ e))
+
+  section-sum : (p earlier : ℕ) → Walk ok f n p earlier → n ≤ p → (earlier ≡ all → ⊥) → firstFailing section ≡ Refused num n
+  unfolding section firstFailing choose
+  section-sum p earlier w l e =
+      let h = ended p earlier w l in
+      tab-over (λ k. test num k (ok k)) n _ (h .1) ∙ rw (ne-eqb (sum f n) all (λ q. e (h .0 ∙ q)))
+
+-- ---- programs and areas, by the counts that were read
+
+module _ (b : List ℕ) (n : Counts) (k : Counted b n) (p earlier : ℕ) (w : Walk (programOk b) (instructionCount b) (n .programs) p earlier) where
+  program-walk : Walk (programOk b) (instructionCount b) (programs b) p earlier
+  program-walk = rw (← k .programs-are) w
+
+  pub program-stop : (g : Bool) → p < n .programs → g ≡ programOk b p → g ≡ false → Refused 14 p ≡ firstFailing (programTests b)
+  unfolding programTests section
+  program-stop g l e t =
+      sym (section-stop 14 (programOk b) (instructionCount b) (programs b) (instructions b) p earlier program-walk (omega (arith, k .programs-are)) (sym e ∙ t))
+
+  pub program-fine : n .programs ≤ p → earlier ≡ n .instructions → Fine ≡ firstFailing (programTests b)
+  unfolding programTests section
+  program-fine l e =
+      sym (section-fine 14 (programOk b) (instructionCount b) (programs b) (instructions b) p earlier program-walk (omega (arith, k .programs-are)) (e ∙ k .instructions-are))
+
+  pub program-sum : n .programs ≤ p → (earlier ≡ n .instructions → ⊥) → Refused 14 (n .programs) ≡ firstFailing (programTests b)
+  unfolding programTests section
+  program-sum l e =
+      ap (λ (m : ℕ). Refused 14 m) (k .programs-are)
+      ∙ sym (section-sum 14 (programOk b) (instructionCount b) (programs b) (instructions b) p earlier program-walk (omega (arith, k .programs-are)) (λ q. e (q ∙ sym (k .instructions-are))))
+
+module _ (b : List ℕ) (n : Counts) (k : Counted b n) (p earlier : ℕ) (w : Walk (areaOk b) (areaLength b) (n .areas) p earlier) where
+  area-walk : Walk (areaOk b) (areaLength b) (areas b) p earlier
+  area-walk = rw (← k .areas-are) w
+
+  pub area-stop : (g : Bool) → p < n .areas → g ≡ areaOk b p → g ≡ false → Refused 15 p ≡ firstFailing (areaTests b)
+  unfolding areaTests section
+  area-stop g l e t =
+      sym (section-stop 15 (areaOk b) (areaLength b) (areas b) (dataCells b) p earlier area-walk (omega (arith, k .areas-are)) (sym e ∙ t))
+
+  pub area-fine : n .areas ≤ p → earlier ≡ n .cells → Fine ≡ firstFailing (areaTests b)
+  unfolding areaTests section
+  area-fine l e =
+      sym (section-fine 15 (areaOk b) (areaLength b) (areas b) (dataCells b) p earlier area-walk (omega (arith, k .areas-are)) (e ∙ k .cells-are))
+
+  pub area-sum : n .areas ≤ p → (earlier ≡ n .cells → ⊥) → Refused 15 (n .areas) ≡ firstFailing (areaTests b)
+  unfolding areaTests section
+  area-sum l e =
+      ap (λ (m : ℕ). Refused 15 m) (k .areas-are)
+      ∙ sym (section-sum 15 (areaOk b) (areaLength b) (areas b) (dataCells b) p earlier area-walk (omega (arith, k .areas-are)) (λ q. e (q ∙ sym (k .cells-are))))
+
+pub ruleset walks = (walk-start, walk-next, program-stop, program-fine, program-sum, area-stop, area-fine, area-sum, arith)

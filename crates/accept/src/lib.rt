@@ -1,0 +1,195 @@
+// The check of an image: answers 11 to 17 with their places, in number order, lowest place first.
+ghost use mathlib.Core.Path.{_≡_};
+ghost use mathlib.Core.Bool.{_&&_, true};
+ghost use Prim.Native.Nat.{ℕ, _+_, _*_, _<_, _≤_};
+ghost use lib.Dec.{eqb, leb};
+ghost use lib.ListN.{length};
+ghost use Rattle.moore.specs.Objects.{choose};
+ghost use Rattle.scope.specs.Image.{word, programs, areas, instructionCount};
+ghost use Rattle.scope.specs.Checks.{firstFailing, sum, ranges, sections, programOk, programTests};
+ghost use Rattle.image.specs.Laid.{Laid, Counted};
+ghost use Rattle.accept.specs.Facts.{Ranged, Joined, fieldsOk};
+use image::Counts;
+use image::Offsets;
+use scope::Checked;
+
+// ---- 12 and 13: the header words
+
+fn in_range(image: &[u8], k: usize, low: u32, high: u32) -> bool
+    requires { ⌜ (k < 13) × (52 ≤ length (now image)) ⌝ }
+    ensures { λ r. ⌜ r ≡ leb low (word (now (image .entry)) k) && leb (word (now (image .entry)) k) high ⌝ }
+{
+    let w = image::header_word(image, k);
+    if low <= w { w <= high } else { false }
+}
+
+fn check_ranges(image: &[u8]) -> Checked
+    requires { ⌜ 52 ≤ length (now image) ⌝ }
+    ensures { λ r. ⌜ r ≡ firstFailing (ranges (now (image .entry))) ⌝ }
+{
+    if in_range(image, 1, 1, 256) {
+    } else {
+        return Checked::Refused { answer: 12, place: 1 };
+    }
+    if in_range(image, 2, 0, 256) {
+    } else {
+        return Checked::Refused { answer: 12, place: 2 };
+    }
+    if in_range(image, 3, 1, 2048) {
+    } else {
+        return Checked::Refused { answer: 12, place: 3 };
+    }
+    if in_range(image, 4, 0, 1024) {
+    } else {
+        return Checked::Refused { answer: 12, place: 4 };
+    }
+    if in_range(image, 5, 0, 2048) {
+    } else {
+        return Checked::Refused { answer: 12, place: 5 };
+    }
+    if in_range(image, 11, 2, 2048) {
+    } else {
+        return Checked::Refused { answer: 12, place: 11 };
+    }
+    if in_range(image, 12, 0, 1024) {
+        Checked::Fine
+    } else {
+        Checked::Refused { answer: 12, place: 12 }
+    }
+}
+
+fn is_word(image: &[u8], k: usize, wanted: usize) -> bool
+    requires { ⌜ (k < 13) × (52 ≤ length (now image)) ⌝ }
+    ensures { λ r. ⌜ r ≡ eqb (word (now (image .entry)) k) wanted ⌝ }
+{
+    let w = image::header_word(image, k) as usize;
+    w == wanted
+}
+
+fn check_sections(image: &[u8], n: Counts) -> Checked
+    requires { ⌜ (52 ≤ length (now image)) × Counted (now image) n × Ranged (now image) ⌝ }
+    ensures { λ r. ⌜ r ≡ firstFailing (sections (now (image .entry))) ⌝ }
+{
+    let areas = 52 + 12 * n.programs;
+    let instructions = areas + 4 * n.areas;
+    let constants = instructions + 8 * n.instructions;
+    let cells = constants + 8 * n.constants;
+    let end = cells + 8 * n.cells;
+    if is_word(image, 0, end) {
+    } else {
+        return Checked::Refused { answer: 13, place: 0 };
+    }
+    if is_word(image, 6, 52) {
+    } else {
+        return Checked::Refused { answer: 13, place: 6 };
+    }
+    if is_word(image, 7, areas) {
+    } else {
+        return Checked::Refused { answer: 13, place: 7 };
+    }
+    if is_word(image, 8, instructions) {
+    } else {
+        return Checked::Refused { answer: 13, place: 8 };
+    }
+    if is_word(image, 9, constants) {
+    } else {
+        return Checked::Refused { answer: 13, place: 9 };
+    }
+    if is_word(image, 10, cells) {
+        Checked::Fine
+    } else {
+        Checked::Refused { answer: 13, place: 10 }
+    }
+}
+
+// ---- 14: program records
+
+// "0 if no temps"; "The temps' constants lie below K."
+fn temps_ok(first: u16, temps: u16, constants: usize) -> bool
+    ensures { λ r. ⌜ r ≡ choose (eqb temps 0) (eqb first 0) (leb (first + temps) constants) ⌝ }
+{
+    if temps == 0 {
+        first == 0
+    } else {
+        first as usize + temps as usize <= constants
+    }
+}
+
+// "Program 0 has no formals."
+fn formals_ok(p: usize, formals: u16) -> bool
+    ensures { λ r. ⌜ r ≡ choose (eqb p 0) (eqb formals 0) true ⌝ }
+{
+    if p == 0 { formals == 0 } else { true }
+}
+
+fn fields_ok(
+    p: usize,
+    earlier: usize,
+    constants: usize,
+    first: u16,
+    count: u16,
+    formals: u16,
+    temps: u16,
+    start: u16,
+    zero: u16,
+) -> bool
+    ensures { λ r. ⌜ r ≡ fieldsOk p earlier constants first count formals temps start zero ⌝ }
+{
+    if first as usize == earlier {
+    } else {
+        return false;
+    }
+    if 1 <= count {
+    } else {
+        return false;
+    }
+    if formals as usize + temps as usize <= 256 {
+    } else {
+        return false;
+    }
+    if temps_ok(start, temps, constants) {
+    } else {
+        return false;
+    }
+    if formals_ok(p, formals) {
+        zero == 0
+    } else {
+        false
+    }
+}
+
+fn program_ok(image: &[u8], at: Offsets, n: Counts, p: usize, earlier: usize) -> bool
+    requires { ⌜ Laid (now image) at × Counted (now image) n × (p < programs (now image)) × (earlier ≡ sum (instructionCount (now image)) p) ⌝ }
+    ensures { λ r. ⌜ r ≡ programOk (now (image .entry)) p ⌝ }
+{
+    let first = image::program_field(image, at, p, 0);
+    let count = image::program_field(image, at, p, 1);
+    let formals = image::program_field(image, at, p, 2);
+    let temps = image::program_field(image, at, p, 3);
+    let start = image::program_field(image, at, p, 4);
+    let zero = image::program_field(image, at, p, 5);
+    fields_ok(p, earlier, n.constants, first, count, formals, temps, start, zero)
+}
+
+fn check_programs(image: &[u8], at: Offsets, n: Counts) -> Checked
+    requires { ⌜ Laid (now image) at × Counted (now image) n × Ranged (now image) ⌝ }
+    ensures { λ r. ⌜ r ≡ firstFailing (programTests (now (image .entry))) ⌝ }
+{
+    let mut earlier: usize = 0;
+    let mut p: usize = 0;
+    while p < n.programs {
+        let good = program_ok(image, at, n, p, earlier);
+        if good {
+            let count = image::program_field(image, at, p, 1) as usize;
+            earlier = earlier + count;
+            p = p + 1;
+        } else {
+            return Checked::Refused { answer: 14, place: p as u32 };
+        }
+    }
+    if earlier == n.instructions {
+        Checked::Fine
+    } else {
+        Checked::Refused { answer: 14, place: n.programs as u32 }
+    }
+}

@@ -1,13 +1,13 @@
 -- Loops over the records of a section: every earlier record passed, and the earlier counts add up.
 use mathlib.Core.Path.{_≡_, refl, sym, ap, _∙_, subst}
-use mathlib.Core.List.{List, [], _∷_, _++_}
+use mathlib.Core.List.{List, [], _∷_, _++_, append-nil}
 use mathlib.Core.Bool.{Bool, true, false}
 use Prim.Native.Nat.{ℕ, zero, suc, _+_, _*_, _<_, _≤_}
 use native.Mathlib.Omega.{arith}
 use native.Mathlib.Decide.{ℕ-discrete}
 use borrow.Author.Count.{below-more}
 use borrow.Author.Tests.{eq-eqb, ne-eqb}
-use lib.Dec.{eqb}
+use lib.Dec.{eqb, leb}
 use Rattle.moore.specs.Objects.{choose}
 use Rattle.scope.specs.declared.Checked.{Checked}
 use Rattle.scope.specs.declared.Checked.the-variants.{Fine, Refused}
@@ -15,7 +15,12 @@ use Rattle.scope.specs.Image.{programs, areas, instructions, dataCells, instruc
 use Rattle.scope.specs.Checks.{Test, test, firstFailing, tab, sum, programOk, programTests, areaOk, areaTests}
 use Rattle.image.specs.declared.Counts.{Counts}
 use Rattle.image.specs.Laid.{Counted}
-use Rattle.accept.specs.Facts.{Walk}
+use Rattle.scope.specs.declared.Cell.{Cell}
+use Rattle.scope.specs.Cells.{cellFrom, objectp}
+use Rattle.scope.specs.Image.{areaField}
+use Rattle.scope.specs.Checks.{boundsOf}
+use Rattle.scope.proofs.Bools.{and-eq, and-ne}
+use Rattle.accept.specs.Facts.{Walk, Passing, cellOk, cellsFrom}
 
 -- ---- tests of a table
 
@@ -117,4 +122,56 @@ module _ (b : List ℕ) (n : Counts) (k : Counted b n) (p earlier : ℕ) (w : Wa
       ap (λ (m : ℕ). Refused 15 m) (k .areas-are)
       ∙ sym (section-sum 15 (areaOk b) (areaLength b) (areas b) (dataCells b) p earlier area-walk (omega (arith, k .areas-are)) (λ q. e (q ∙ sym (k .cells-are))))
 
-pub ruleset walks = (walk-start, walk-next, program-stop, program-fine, program-sum, area-stop, area-fine, area-sum, arith)
+module _ (b : List ℕ) (a earlier first many : ℕ) (e0 : first ≡ areaField b a 0) (e1 : many ≡ areaField b a 1) (e : earlier ≡ sum (areaLength b) a) where
+  pub area-yes : first ≡ earlier → leb 1 many ≡ areaOk b a
+  unfolding areaOk
+  area-yes h = and-eq _ _ _ _ (sym e0 ∙ h ∙ e) (ap (leb 1) e1)
+
+  pub area-no : (first ≡ earlier → ⊥) → false ≡ areaOk b a
+  unfolding areaOk
+  area-no h = and-ne _ _ _ (λ q. h (e0 ∙ q ∙ sym e))
+
+pub ruleset walks = (walk-start, walk-next, program-stop, program-fine, program-sum, area-stop, area-fine, area-sum, area-yes, area-no, arith)
+
+-- ---- places in a row
+
+pub passing-start : (ok : ℕ → Bool) (n : ℕ) → Passing ok n 0
+passing-start ok n = record { within = omega arith; passed = λ j l. absurd (omega arith) }
+
+passing-next : (ok : ℕ → Bool) (n k : ℕ) → Passing ok n k → k < n → ok k ≡ true → Passing ok n (k + 1)
+passing-next ok n k w l t = record { within = omega arith; passed = below-more (λ (j : ℕ). ok j ≡ true) k (w .passed) t }
+
+-- a table with nothing behind it
+alone : (f : ℕ → Test) (n : ℕ) → firstFailing (tab f n) ≡ firstFailing (tab f n ++ [])
+alone f n = ap firstFailing (sym (append-nil (tab f n)))
+
+passing-stop : (ok : ℕ → Bool) (num : ℕ) (place : ℕ → ℕ) (n k : ℕ) → Passing ok n k → k < n → ok k ≡ false
+    → Refused num (place k) ≡ firstFailing (tab (λ j. test num (place j) (ok j)) n)
+passing-stop ok num place n k w l e =
+    sym (alone (λ j. test num (place j) (ok j)) n ∙ tab-stop (λ j. test num (place j) (ok j)) n k [] l (w .passed) e)
+
+passing-over : (ok : ℕ → Bool) (num : ℕ) (place : ℕ → ℕ) (n k : ℕ) → Passing ok n k → n ≤ k
+    → Fine ≡ firstFailing (tab (λ j. test num (place j) (ok j)) n)
+unfolding firstFailing
+passing-over ok num place n k w l =
+    sym (alone (λ j. test num (place j) (ok j)) n ∙ tab-over (λ j. test num (place j) (ok j)) n [] (λ j m. w .passed j (omega arith)))
+
+module _ (b : List ℕ) (from n k : ℕ) (w : Passing (cellOk b from) n k) where
+  cell-flag : (x : Cell) (g t : Bool) → x ≡ cellFrom b (from + 8 * k) → g ≡ objectp (boundsOf b) x → g ≡ t → cellOk b from k ≡ t
+  unfolding cellOk
+  cell-flag x g t e q h = ap (objectp (boundsOf b)) (sym e) ∙ sym q ∙ h
+
+  pub cells-next : (x : Cell) (g : Bool) → k < n → x ≡ cellFrom b (from + 8 * k) → g ≡ objectp (boundsOf b) x → g ≡ true
+      → Passing (cellOk b from) n (k + 1)
+  cells-next x g l e q h = passing-next _ n k w l (cell-flag x g true e q h)
+
+  pub cells-stop : (place : ℕ) (x : Cell) (g : Bool) → k < n → x ≡ cellFrom b (from + 8 * k) → g ≡ objectp (boundsOf b) x → g ≡ false
+      → Refused 16 (place + k) ≡ firstFailing (cellsFrom b from n place)
+  unfolding cellsFrom
+  cells-stop place x g l e q h = passing-stop (cellOk b from) 16 (λ j. place + j) n k w l (cell-flag x g false e q h)
+
+  pub cells-over : (place : ℕ) → n ≤ k → Fine ≡ firstFailing (cellsFrom b from n place)
+  unfolding cellsFrom
+  cells-over place l = passing-over (cellOk b from) 16 (λ j. place + j) n k w l
+
+pub ruleset cell-walks = (passing-start, cells-next, cells-stop, cells-over, arith)

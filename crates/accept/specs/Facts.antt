@@ -6,7 +6,8 @@ use mathlib.Core.Bool.{Bool, true, _&&_}
 use lib.Dec.{eqb, leb}
 use Rattle.moore.specs.Objects.{choose}
 use Rattle.scope.specs.Image.{word}
-use Rattle.scope.specs.Checks.{sum}
+use Rattle.scope.specs.Cells.{cellFrom, objectp}
+use Rattle.scope.specs.Checks.{Test, test, tab, sum, boundsOf}
 
 -- 12 holds
 pub record Ranged (b : List ℕ) : Type 0 where
@@ -41,3 +42,15 @@ pub record Walk (ok : ℕ → Bool) (f : ℕ → ℕ) (n p earlier : ℕ) : Type
   pub total : earlier ≡ sum f p
   pub low : earlier ≤ 65535 * p
   pub passed : (k : ℕ) → k < p → ok k ≡ true
+
+-- a loop over n places at place k: every place before it passed `ok`
+pub record Passing (ok : ℕ → Bool) (n k : ℕ) : Type 0 where
+  pub within : k ≤ n
+  pub passed : (j : ℕ) → j < k → ok j ≡ true
+
+-- cells in a row, from a byte on, the first at this place
+unfoldable pub cellOk : List ℕ → ℕ → ℕ → Bool
+cellOk b from k = objectp (boundsOf b) (cellFrom b (from + 8 * k))
+
+unfoldable pub cellsFrom : List ℕ → ℕ → ℕ → ℕ → List Test
+cellsFrom b from many place = tab (λ k. test 16 (place + k) (cellOk b from k)) many

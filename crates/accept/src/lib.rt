@@ -5,10 +5,10 @@ ghost use Prim.Native.Nat.{ℕ, _+_, _*_, _<_, _≤_};
 ghost use lib.Dec.{eqb, leb};
 ghost use lib.ListN.{length};
 ghost use Rattle.moore.specs.Objects.{choose};
-ghost use Rattle.scope.specs.Image.{word, programs, areas, instructionCount};
-ghost use Rattle.scope.specs.Checks.{firstFailing, sum, ranges, sections, programOk, programTests};
+ghost use Rattle.scope.specs.Image.{word, programs, areas, instructionCount, areaLength};
+ghost use Rattle.scope.specs.Checks.{firstFailing, sum, ranges, sections, programOk, programTests, areaOk, areaTests};
 ghost use Rattle.image.specs.Laid.{Laid, Counted};
-ghost use Rattle.accept.specs.Facts.{Ranged, Joined, fieldsOk};
+ghost use Rattle.accept.specs.Facts.{Ranged, Joined, fieldsOk, cellsFrom};
 use image::Counts;
 use image::Offsets;
 use scope::Checked;
@@ -192,4 +192,58 @@ fn check_programs(image: &[u8], at: Offsets, n: Counts) -> Checked
     } else {
         Checked::Refused { answer: 14, place: n.programs as u32 }
     }
+}
+
+// ---- 15: area records
+
+fn area_ok(image: &[u8], at: Offsets, a: usize, earlier: usize) -> bool
+    requires { ⌜ Laid (now image) at × (a < areas (now image)) × (earlier ≡ sum (areaLength (now image)) a) ⌝ }
+    ensures { λ r. ⌜ r ≡ areaOk (now (image .entry)) a ⌝ }
+{
+    let first = image::area_field(image, at, a, 0) as usize;
+    let length = image::area_field(image, at, a, 1);
+    if first == earlier { 1 <= length } else { false }
+}
+
+fn check_areas(image: &[u8], at: Offsets, n: Counts) -> Checked
+    requires { ⌜ Laid (now image) at × Counted (now image) n × Ranged (now image) ⌝ }
+    ensures { λ r. ⌜ r ≡ firstFailing (areaTests (now (image .entry))) ⌝ }
+{
+    let mut earlier: usize = 0;
+    let mut a: usize = 0;
+    while a < n.areas {
+        let good = area_ok(image, at, a, earlier);
+        if good {
+            let length = image::area_field(image, at, a, 1) as usize;
+            earlier = earlier + length;
+            a = a + 1;
+        } else {
+            return Checked::Refused { answer: 15, place: a as u32 };
+        }
+    }
+    if earlier == n.cells {
+        Checked::Fine
+    } else {
+        Checked::Refused { answer: 15, place: n.areas as u32 }
+    }
+}
+
+// ---- 16: constants and data cells
+
+// `many` cells from a byte on, the first of them at this place.
+fn check_cells(image: &[u8], at: Offsets, n: Counts, from: usize, many: usize, place: usize) -> Checked
+    requires { ⌜ Laid (now image) at × Counted (now image) n × (from + 8 * many ≤ length (now image)) × (place ≤ 65536) ⌝ }
+    ensures { λ r. ⌜ r ≡ firstFailing (cellsFrom (now (image .entry)) from many place) ⌝ }
+{
+    let mut k: usize = 0;
+    while k < many {
+        let c = cells::get_from(image, from + 8 * k);
+        let good = image::is_object(image, at, n, c);
+        if good {
+            k = k + 1;
+        } else {
+            return Checked::Refused { answer: 16, place: (place + k) as u32 };
+        }
+    }
+    Checked::Fine
 }

@@ -4,6 +4,7 @@ use mathlib.Core.List.{List}
 use Prim.Native.Nat.{ℕ, _+_, _*_, _<_, _≤_}
 use lib.ListN.{length}
 use Rattle.scope.specs.Image.{word, programs, areas, instructions, constants, dataCells}
+use Rattle.scope.specs.Checks.{WellFormed}
 use Rattle.image.specs.declared.Counts.{Counts}
 use Rattle.image.specs.declared.Offsets.{Offsets}
 
@@ -44,3 +45,9 @@ pub record Counted (b : List ℕ) (n : Counts) : Type 0 where
   pub cells-are : n .cells ≡ word b 5
   pub control-is : n .control ≡ word b 11
   pub temporary-is : n .temporary ≡ word b 12
+
+-- an accepted image, its offsets and its counts: what every function above the check asks for
+pub record Accepted (b : List ℕ) (at : Offsets) (n : Counts) : Type 0 where
+  pub laid : Laid b at
+  pub counted : Counted b n
+  pub formed : WellFormed b

@@ -1,25 +1,23 @@
-use Rattle.scope.specs.Cells.{u32At}
+-- `cells::get32` meets its contract: four bytes are a number below 4294967296, the one that `u32At` reads. Assumes nothing.
 use borrow.Author.Needs.{needs}
+use Rattle.scope.specs.Cells.{u32At}
 use Rattle.cells.proofs.get32.Statement.{statement}
 use Rattle.cells.proofs.get32.Tie as tie
-use Rattle.cells.proofs.get32.Reads as reads
-use Rattle.cells.proofs.get32.Lts as lts
-use Rattle.cells.proofs.w32.Reads as w32-reads
 
-shared-slice-read-w32 : tie.Need-shared-slice-read-w32
-shared-slice-read-w32 c = search needs
+shared-slice-read-wide32 : tie.Need-shared-slice-read-wide32
+shared-slice-read-wide32 c = search needs
 
-w32-requires : tie.Need-w32-requires
-w32-requires c κs = search needs
+wide32-requires : tie.Need-wide32-requires
+wide32-requires c κs = search needs
 
-add-w32 : tie.Need-add-w32
-add-w32 c = search needs
+add-wide32 : tie.Need-add-wide32
+add-wide32 c = search needs
 
-shared-slice-read-w32-2 : tie.Need-shared-slice-read-w32-2
-shared-slice-read-w32-2 c = search needs
+shared-slice-read-wide32-2 : tie.Need-shared-slice-read-wide32-2
+shared-slice-read-wide32-2 c = search needs
 
-w32-requires-2 : tie.Need-w32-requires-2
-w32-requires-2 c κs = search needs
+wide32-requires-2 : tie.Need-wide32-requires-2
+wide32-requires-2 c κs = search needs
 
 mul-result : tie.Need-mul-result
 mul-result c = search needs
@@ -27,14 +25,14 @@ mul-result c = search needs
 add-result : tie.Need-add-result
 add-result c = search needs
 
-add-w32-2 : tie.Need-add-w32-2
-add-w32-2 c = search needs
+add-wide32-2 : tie.Need-add-wide32-2
+add-wide32-2 c = search needs
 
-shared-slice-read-w32-3 : tie.Need-shared-slice-read-w32-3
-shared-slice-read-w32-3 c = search needs
+shared-slice-read-wide32-3 : tie.Need-shared-slice-read-wide32-3
+shared-slice-read-wide32-3 c = search needs
 
-w32-requires-3 : tie.Need-w32-requires-3
-w32-requires-3 c κs = search needs
+wide32-requires-3 : tie.Need-wide32-requires-3
+wide32-requires-3 c κs = search needs
 
 mul-result-2 : tie.Need-mul-result-2
 mul-result-2 c = search needs
@@ -42,14 +40,14 @@ mul-result-2 c = search needs
 add-result-2 : tie.Need-add-result-2
 add-result-2 c = search needs
 
-add-w32-3 : tie.Need-add-w32-3
-add-w32-3 c = search needs
+add-wide32-3 : tie.Need-add-wide32-3
+add-wide32-3 c = search needs
 
-shared-slice-read-w32-4 : tie.Need-shared-slice-read-w32-4
-shared-slice-read-w32-4 c = search needs
+shared-slice-read-wide32-4 : tie.Need-shared-slice-read-wide32-4
+shared-slice-read-wide32-4 c = search needs
 
-w32-requires-4 : tie.Need-w32-requires-4
-w32-requires-4 c κs = search needs
+wide32-requires-4 : tie.Need-wide32-requires-4
+wide32-requires-4 c κs = search needs
 
 mul-result-3 : tie.Need-mul-result-3
 mul-result-3 c = search needs
@@ -59,27 +57,27 @@ add-result-3 c = search needs
 
 returns : tie.Need-returns
 unfolding u32At
-returns c = cc
+returns c = search needs
 
 pub get32-spec : {M : Type 1} → statement M
 get32-spec =
     tie.close
     (tie.spec
-    shared-slice-read-w32
-    w32-requires
-    add-w32
-    shared-slice-read-w32-2
-    w32-requires-2
+    shared-slice-read-wide32
+    wide32-requires
+    add-wide32
+    shared-slice-read-wide32-2
+    wide32-requires-2
     mul-result
     add-result
-    add-w32-2
-    shared-slice-read-w32-3
-    w32-requires-3
+    add-wide32-2
+    shared-slice-read-wide32-3
+    wide32-requires-3
     mul-result-2
     add-result-2
-    add-w32-3
-    shared-slice-read-w32-4
-    w32-requires-4
+    add-wide32-3
+    shared-slice-read-wide32-4
+    wide32-requires-4
     mul-result-3
     add-result-3
     returns)

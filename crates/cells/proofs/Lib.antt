@@ -1,0 +1,4 @@
+pub mod Tabs
+pub mod Octets
+pub mod Laws
+pub mod Buffers

@@ -1,0 +1,114 @@
+-- The eight bytes of a cell: what stores leave, what a read of them gives, and that a cell tells its bytes. Assumes nothing.
+use mathlib.Core.Path.{_≡_, refl, _∙_}
+use mathlib.Core.List.{List, [], _∷_, _++_}
+use Prim.Native.Nat.{ℕ, zero, suc, _+_, _*_, _/_, _%_, _<_, _≤_}
+use native.Mathlib.Omega.{arith}
+use lib.ListN.{length, getD, set, length-set}
+use lib.Seq.{sets, getD-set-same, getD-set-other}
+use Rattle.scope.specs.declared.Cell.{Cell}
+use Rattle.scope.specs.Cells.{u16At, u32At, cellAt, bytesOf}
+use Rattle.cells.specs.Rows.{putAt, Fit, Bytes}
+
+-- ---- stores in a row
+
+pub sets-below : (vs l : List ℕ) (k m : ℕ) → m < k → getD (sets l k vs) m 0 ≡ getD l m 0
+sets-below [] l k m h = refl
+sets-below (a ∷ vs) l k m h =
+    sets-below vs (set l k a) (suc k) m (omega arith) ∙ getD-set-other l k m a 0 (λ e. omega arith)
+
+pub sets-above : (vs l : List ℕ) (k m : ℕ) → k + length vs ≤ m → getD (sets l k vs) m 0 ≡ getD l m 0
+sets-above [] l k m h = refl
+sets-above (a ∷ vs) l k m h =
+    sets-above vs (set l k a) (suc k) m (omega arith) ∙ getD-set-other l k m a 0 (λ e. omega arith)
+
+pub sets-in : (vs l : List ℕ) (k m : ℕ) → m < length vs → k + length vs ≤ length l → getD (sets l k vs) (k + m) 0 ≡ getD vs m 0
+sets-in [] l k m h f = omega arith
+sets-in (a ∷ vs) l k zero h f =
+    let e : k + 0 ≡ k = omega arith in
+    rw e (sets-below vs (set l k a) (suc k) k (omega arith) ∙ getD-set-same l k a 0 (omega arith))
+sets-in (a ∷ vs) l k (suc m) h f =
+    let e : k + suc m ≡ suc k + m = omega arith in
+    rw e (sets-in vs (set l k a) (suc k) m (omega arith) (simp length-set (omega arith)))
+
+-- ---- a cell's eight bytes
+
+-- `puts b k c` is b with the bytes of c from byte k, as code stores them
+abbrev puts : List ℕ → ℕ → Cell → List ℕ
+puts b k c =
+    let b1 : List ℕ = set (set b k (c .tag)) (k + 1) (c .zero) in
+    let b2 : List ℕ = set (set b1 (k + 2) (c .name % 256)) (k + 3) (c .name / 256 % 256) in
+    let b3 : List ℕ = set (set b2 (k + 4) (c .value % 256)) (k + 5) (c .value / 256 % 256) in
+    set (set b3 (k + 6) (c .value / 65536 % 256)) (k + 7) (c .value / 16777216 % 256)
+
+puts-sets : (b : List ℕ) (k : ℕ) (c : Cell) → puts b k c ≡ sets b k (bytesOf c)
+puts-sets b k c =
+    let e1 : k + 1 ≡ suc k = omega arith in
+    let e2 : k + 2 ≡ suc (suc k) = omega arith in
+    let e3 : k + 3 ≡ suc (suc (suc k)) = omega arith in
+    let e4 : k + 4 ≡ suc (suc (suc (suc k))) = omega arith in
+    let e5 : k + 5 ≡ suc (suc (suc (suc (suc k)))) = omega arith in
+    let e6 : k + 6 ≡ suc (suc (suc (suc (suc (suc k))))) = omega arith in
+    let e7 : k + 7 ≡ suc (suc (suc (suc (suc (suc (suc k)))))) = omega arith in
+    rw (e1, e2, e3, e4, e5, e6, e7)
+
+pub eight-stores : (b : List ℕ) (i : ℕ) (c : Cell) → puts b (8 * i) c ≡ putAt b i c
+unfolding putAt
+eight-stores b i c = puts-sets b (8 * i) c
+
+-- bytes read from a buffer are those of the cell read there
+pub bytes-of-cell : (b : List ℕ) (i : ℕ) → Bytes b → (m : ℕ) → m < 8 → getD b (8 * i + m) 0 ≡ getD (bytesOf (cellAt b i)) m 0
+unfolding u16At u32At
+bytes-of-cell b i p zero h = let e : 8 * i + 0 ≡ 8 * i = omega arith in rw e
+bytes-of-cell b i p (suc zero) h = refl
+bytes-of-cell b i p (suc (suc zero)) h = omega (arith, p (8 * i + 2))
+bytes-of-cell b i p (suc (suc (suc zero))) h =
+    let e : 8 * i + 3 ≡ 8 * i + 2 + 1 = omega arith in
+    rw e (omega (arith, p (8 * i + 2), p (8 * i + 2 + 1)))
+bytes-of-cell b i p (suc (suc (suc (suc zero)))) h = omega (arith, p (8 * i + 4))
+bytes-of-cell b i p (suc (suc (suc (suc (suc zero))))) h =
+    let e : 8 * i + 5 ≡ 8 * i + 4 + 1 = omega arith in
+    rw e (omega (arith, p (8 * i + 4), p (8 * i + 4 + 1)))
+bytes-of-cell b i p (suc (suc (suc (suc (suc (suc zero)))))) h =
+    let e : 8 * i + 6 ≡ 8 * i + 4 + 2 = omega arith in
+    rw e (omega (arith, p (8 * i + 4), p (8 * i + 4 + 1), p (8 * i + 4 + 2)))
+bytes-of-cell b i p (suc (suc (suc (suc (suc (suc (suc zero))))))) h =
+    let e : 8 * i + 7 ≡ 8 * i + 4 + 3 = omega arith in
+    rw e (omega (arith, p (8 * i + 4), p (8 * i + 4 + 1), p (8 * i + 4 + 2), p (8 * i + 4 + 3)))
+bytes-of-cell b i p (suc (suc (suc (suc (suc (suc (suc (suc m)))))))) h = absurd (omega arith)
+
+-- the same bytes are the same cell
+pub cell-by-bytes : (a b : List ℕ) (i j : ℕ) → ((m : ℕ) → m < 8 → getD a (8 * i + m) 0 ≡ getD b (8 * j + m) 0) → cellAt a i ≡ cellAt b j
+unfolding u16At u32At
+cell-by-bytes a b i j p =
+    let ei : 8 * i + 0 ≡ 8 * i = omega arith in
+    let ej : 8 * j + 0 ≡ 8 * j = omega arith in
+    let at : (m n s : ℕ) → m + n ≡ s → s < 8 → getD a (8 * i + m + n) 0 ≡ getD b (8 * j + m + n) 0 =
+    λ m n s e h.
+    let ai : 8 * i + m + n ≡ 8 * i + s = omega arith in
+    let aj : 8 * j + m + n ≡ 8 * j + s = omega arith in
+    rw (ai, aj) (p s h) in
+    rw (
+      rw (ei, ej) at (p 0 (omega arith)),
+      p 1 (omega arith),
+      p 2 (omega arith),
+      at 2 1 3 (omega arith) (omega arith),
+      p 4 (omega arith),
+      at 4 1 5 (omega arith) (omega arith),
+      at 4 2 6 (omega arith) (omega arith),
+      at 4 3 7 (omega arith) (omega arith),
+    )
+
+-- the bytes of c are c
+two-digits : (n : ℕ) → n < 65536 → n % 256 + 256 * (n / 256 % 256) ≡ n
+two-digits n h = omega arith
+
+four-digits : (v : ℕ) → v < 4294967296 → v % 256 + 256 * (v / 256 % 256) + 65536 * (v / 65536 % 256) + 16777216 * (v / 16777216 % 256) ≡ v
+four-digits v h = let top : v / 16777216 % 256 ≡ v / 16777216 = omega arith in rw top (omega arith)
+
+pub first-cell : (c : Cell) (r : List ℕ) → Fit c → cellAt (bytesOf c ++ r) 0 ≡ c
+unfolding u16At u32At
+first-cell c r f = rw (two-digits (c .name) (f .name), four-digits (c .value) (f .value))
+
+pub cell-of-bytes : (b : List ℕ) (i : ℕ) (c : Cell) → Fit c → ((m : ℕ) → m < 8 → getD b (8 * i + m) 0 ≡ getD (bytesOf c) m 0) → cellAt b i ≡ c
+cell-of-bytes b i c f p =
+    cell-by-bytes b (bytesOf c) i 0 (λ m h. let e : 8 * 0 + m ≡ m = omega arith in p m h ∙ rw e) ∙ first-cell c [] f

@@ -138,19 +138,19 @@ pub ruleset walks = (walk-start, walk-next, program-stop, program-fine, program-
 pub passing-start : (ok : ℕ → Bool) (n : ℕ) → Passing ok n 0
 passing-start ok n = record { within = omega arith; passed = λ j l. absurd (omega arith) }
 
-passing-next : (ok : ℕ → Bool) (n k : ℕ) → Passing ok n k → k < n → ok k ≡ true → Passing ok n (k + 1)
+pub passing-next : (ok : ℕ → Bool) (n k : ℕ) → Passing ok n k → k < n → ok k ≡ true → Passing ok n (k + 1)
 passing-next ok n k w l t = record { within = omega arith; passed = below-more (λ (j : ℕ). ok j ≡ true) k (w .passed) t }
 
 -- a table with nothing behind it
 alone : (f : ℕ → Test) (n : ℕ) → firstFailing (tab f n) ≡ firstFailing (tab f n ++ [])
 alone f n = ap firstFailing (sym (append-nil (tab f n)))
 
-passing-stop : (ok : ℕ → Bool) (num : ℕ) (place : ℕ → ℕ) (n k : ℕ) → Passing ok n k → k < n → ok k ≡ false
+pub passing-stop : (ok : ℕ → Bool) (num : ℕ) (place : ℕ → ℕ) (n k : ℕ) → Passing ok n k → k < n → ok k ≡ false
     → Refused num (place k) ≡ firstFailing (tab (λ j. test num (place j) (ok j)) n)
 passing-stop ok num place n k w l e =
     sym (alone (λ j. test num (place j) (ok j)) n ∙ tab-stop (λ j. test num (place j) (ok j)) n k [] l (w .passed) e)
 
-passing-over : (ok : ℕ → Bool) (num : ℕ) (place : ℕ → ℕ) (n k : ℕ) → Passing ok n k → n ≤ k
+pub passing-over : (ok : ℕ → Bool) (num : ℕ) (place : ℕ → ℕ) (n k : ℕ) → Passing ok n k → n ≤ k
     → Fine ≡ firstFailing (tab (λ j. test num (place j) (ok j)) n)
 unfolding firstFailing
 passing-over ok num place n k w l =

@@ -1,13 +1,17 @@
 -- What the checks passed so far give the next: the header's ranges, and the sections that lie in the image.
 use mathlib.Core.Path.{_≡_}
-use mathlib.Core.List.{List}
+use mathlib.Core.List.{List, [], _∷_}
 use Prim.Native.Nat.{ℕ, _+_, _*_, _<_, _≤_}
-use mathlib.Core.Bool.{Bool, true, _&&_}
-use lib.Dec.{eqb, leb}
+use mathlib.Core.Bool.{Bool, true, _&&_, _||_}
+use lib.Dec.{eqb, leb, ltb}
+use lib.ListN.{getD}
 use Rattle.moore.specs.Objects.{choose}
-use Rattle.scope.specs.Image.{word}
+use Rattle.scope.specs.declared.Instruction.{Instruction}
+use Rattle.scope.specs.Image.{word, instructions, firstInstruction, instructionCount, locals, constantAt, kindOf, conditionsOf}
 use Rattle.scope.specs.Cells.{cellFrom, objectp}
-use Rattle.scope.specs.Checks.{Test, test, tab, sum, boundsOf}
+use Rattle.scope.specs.Checks.{Test, test, tab, sum, boundsOf, casesOk, ends}
+use Rattle.image.specs.declared.Counts.{Counts}
+use Rattle.accept.specs.declared.Own.{Own}
 
 -- 12 holds
 pub record Ranged (b : List ℕ) : Type 0 where
@@ -54,3 +58,38 @@ cellOk b from k = objectp (boundsOf b) (cellFrom b (from + 8 * k))
 
 unfoldable pub cellsFrom : List ℕ → ℕ → ℕ → ℕ → List Test
 cellsFrom b from many place = tab (λ k. test 16 (place + k) (cellOk b from k)) many
+
+-- ---- instructions
+
+abbrev pub ownOf : List ℕ → ℕ → Own
+ownOf b p = record { program = p; first = firstInstruction b p; count = instructionCount b p; locals = locals b p }
+
+-- q was read off program record `program`, whose instructions lie in the section
+pub record Owns (b : List ℕ) (q : Own) : Type 0 where
+  pub first-is : q .first ≡ firstInstruction b (q .program)
+  pub count-is : q .count ≡ instructionCount b (q .program)
+  pub locals-are : q .locals ≡ locals b (q .program)
+  pub lie : q .first + q .count ≤ instructions b
+  pub few : instructions b ≤ 2048
+
+unfoldable pub boundBy : Counts → Own → ℕ → ℕ
+boundBy n q kind =
+    getD
+    (0 ∷ 1 ∷ n .programs ∷ n .constants ∷ q .locals ∷ n .areas ∷ 1025 ∷ q .count ∷ n .constants ∷ q .count ∷ q .count ∷ [])
+    kind
+    0
+
+-- constant from + k is a PC of program p
+unfoldable pub caseAt : List ℕ → ℕ → ℕ → ℕ → Bool
+caseAt b p from k = eqb (constantAt b (from + k) .tag) 6 && eqb (constantAt b (from + k) .name) p
+
+-- place o of program q, by its instruction and the kind of its code
+unfoldable pub kindOk : List ℕ → Counts → Own → ℕ → Instruction → ℕ → Bool
+kindOk b n q o i kind =
+    ltb (i .condition) (conditionsOf kind)
+    && (ltb (i .a) (boundBy n q kind)
+    && (choose (eqb kind 8) (casesOk b (q .program) i) (eqb (i .b) 0)
+    && (eqb (i .zero) 0 && (ltb (o + 1) (q .count) || ends (i .code)))))
+
+unfoldable pub partsOk : List ℕ → Counts → Own → ℕ → Instruction → Bool
+partsOk b n q o i = kindOk b n q o i (kindOf (i .code))

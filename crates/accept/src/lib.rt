@@ -1,17 +1,20 @@
 // The check of an image: answers 11 to 17 with their places, in number order, lowest place first.
 ghost use mathlib.Core.Path.{_≡_};
-ghost use mathlib.Core.Bool.{_&&_, true};
+ghost use mathlib.Core.Bool.{_&&_, _||_, true};
 ghost use Prim.Native.Nat.{ℕ, _+_, _*_, _<_, _≤_};
-ghost use lib.Dec.{eqb, leb};
+ghost use lib.Dec.{eqb, leb, ltb};
 ghost use lib.ListN.{length};
 ghost use Rattle.moore.specs.Objects.{choose};
-ghost use Rattle.scope.specs.Image.{word, programs, areas, instructionCount, areaLength};
+ghost use Rattle.scope.specs.Image.{word, programs, areas, constants, instructionCount, areaLength};
 ghost use Rattle.scope.specs.Checks.{firstFailing, sum, ranges, sections, programOk, programTests, areaOk, areaTests};
+ghost use Rattle.scope.specs.Checks.{everyCase, casesOk, ends, codeTests};
 ghost use Rattle.image.specs.Laid.{Laid, Counted};
-ghost use Rattle.accept.specs.Facts.{Ranged, Joined, fieldsOk, cellsFrom};
+ghost use Rattle.accept.specs.Facts.{Ranged, Joined, fieldsOk, cellsFrom, ownOf, Owns, boundBy, kindOk, partsOk};
 use image::Counts;
 use image::Offsets;
+use scope::Cell;
 use scope::Checked;
+use scope::Instruction;
 
 // ---- 12 and 13: the header words
 
@@ -243,6 +246,153 @@ fn check_cells(image: &[u8], at: Offsets, n: Counts, from: usize, many: usize, p
             k = k + 1;
         } else {
             return Checked::Refused { answer: 16, place: (place + k) as u32 };
+        }
+    }
+    Checked::Fine
+}
+
+// ---- 17: instructions
+
+// A program, as the check of its instructions needs it.
+pub struct Own {
+    pub program: usize,
+    pub first: usize,
+    pub count: usize,
+    pub locals: usize,
+}
+
+fn read_own(image: &[u8], at: Offsets, p: usize) -> Own
+    requires { ⌜ Laid (now image) at × (p < programs (now image)) ⌝ }
+    ensures { λ r. ⌜ r ≡ ownOf (now (image .entry)) p ⌝ }
+{
+    let first = image::program_field(image, at, p, 0) as usize;
+    let count = image::program_field(image, at, p, 1) as usize;
+    let formals = image::program_field(image, at, p, 2) as usize;
+    let temps = image::program_field(image, at, p, 3) as usize;
+    Own { program: p, first, count, locals: formals + temps }
+}
+
+// Operand a is below this.
+fn operand_bound(n: Counts, q: Own, kind: u8) -> usize
+    ensures { λ r. ⌜ r ≡ boundBy n q kind ⌝ }
+{
+    let bounds: [usize; 11] = [
+        0, 1, n.programs, n.constants, q.locals, n.areas, 1025, q.count, n.constants, q.count, q.count,
+    ];
+    let k = kind as usize;
+    if k < 11 { bounds[k] } else { 0 }
+}
+
+// A PC of program p.
+fn is_case(c: Cell, p: usize) -> bool
+    ensures { λ r. ⌜ r ≡ eqb (c .tag) 6 && eqb (c .name) p ⌝ }
+{
+    if c.tag == 6 { c.name as usize == p } else { false }
+}
+
+fn every_case(image: &[u8], at: Offsets, p: usize, from: usize, many: usize) -> bool
+    requires { ⌜ Laid (now image) at × (from + many ≤ constants (now image)) ⌝ }
+    ensures { λ r. ⌜ r ≡ everyCase (now (image .entry)) p from many ⌝ }
+{
+    let mut k: usize = 0;
+    while k < many {
+        let c = image::constant(image, at, from + k);
+        let good = is_case(c, p);
+        if good {
+            k = k + 1;
+        } else {
+            return false;
+        }
+    }
+    true
+}
+
+fn cases_ok(image: &[u8], at: Offsets, n: Counts, p: usize, i: Instruction) -> bool
+    requires { ⌜ Laid (now image) at × Counted (now image) n ⌝ }
+    ensures { λ r. ⌜ r ≡ casesOk (now (image .entry)) p i ⌝ }
+{
+    let from = i.a as usize;
+    let many = i.b as usize;
+    if 1 <= many {
+    } else {
+        return false;
+    }
+    if from + many <= n.constants {
+        every_case(image, at, p, from, many)
+    } else {
+        false
+    }
+}
+
+// Operand b.
+fn second_ok(image: &[u8], at: Offsets, n: Counts, p: usize, kind: u8, i: Instruction) -> bool
+    requires { ⌜ Laid (now image) at × Counted (now image) n ⌝ }
+    ensures { λ r. ⌜ r ≡ choose (eqb kind 8) (casesOk (now (image .entry)) p i) (eqb (i .b) 0) ⌝ }
+{
+    if kind == 8 { cases_ok(image, at, n, p, i) } else { i.b == 0 }
+}
+
+// RET, JUMP and JUMP-CASE.
+fn may_end(code: u8) -> bool
+    ensures { λ r. ⌜ r ≡ ends code ⌝ }
+{
+    match code {
+        2 => true,
+        12 => true,
+        13 => true,
+        _ => false,
+    }
+}
+
+fn last_ok(o: usize, count: usize, code: u8) -> bool
+    requires { ⌜ o < 65536 ⌝ }
+    ensures { λ r. ⌜ r ≡ ltb (o + 1) count || ends code ⌝ }
+{
+    if o + 1 < count { true } else { may_end(code) }
+}
+
+// Place o of program q, by its instruction and the kind of its code.
+fn kind_ok(image: &[u8], at: Offsets, n: Counts, q: Own, o: usize, i: Instruction, kind: u8) -> bool
+    requires { ⌜ Laid (now image) at × Counted (now image) n × (o < 65536) ⌝ }
+    ensures { λ r. ⌜ r ≡ kindOk (now (image .entry)) n q o i kind ⌝ }
+{
+    let conditions = kinds::conditions(kind);
+    let bound = operand_bound(n, q, kind);
+    if i.condition < conditions {
+    } else {
+        return false;
+    }
+    if (i.a as usize) < bound {
+    } else {
+        return false;
+    }
+    if second_ok(image, at, n, q.program, kind, i) {
+    } else {
+        return false;
+    }
+    if i.zero == 0 { last_ok(o, q.count, i.code) } else { false }
+}
+
+fn parts_ok(image: &[u8], at: Offsets, n: Counts, q: Own, o: usize, i: Instruction) -> bool
+    requires { ⌜ Laid (now image) at × Counted (now image) n × (o < 65536) ⌝ }
+    ensures { λ r. ⌜ r ≡ partsOk (now (image .entry)) n q o i ⌝ }
+{
+    let kind = kinds::kind(i.code);
+    kind_ok(image, at, n, q, o, i, kind)
+}
+
+fn check_code(image: &[u8], at: Offsets, n: Counts, q: Own) -> Checked
+    requires { ⌜ Laid (now image) at × Counted (now image) n × Owns (now image) q ⌝ }
+    ensures { λ r. ⌜ r ≡ firstFailing (codeTests (now (image .entry)) (q .program)) ⌝ }
+{
+    let mut o: usize = 0;
+    while o < q.count {
+        let i = image::instruction(image, at, q.first + o);
+        let good = parts_ok(image, at, n, q, o, i);
+        if good {
+            o = o + 1;
+        } else {
+            return Checked::Refused { answer: 17, place: (q.first + o) as u32 };
         }
     }
     Checked::Fine

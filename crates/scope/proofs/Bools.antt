@@ -51,6 +51,13 @@ and-eq x y r rest h e = rw (eq-eqb x y h) e
 pub and-ne : (x y : ℕ) (rest : Bool) → (x ≡ y → ⊥) → false ≡ eqb x y && rest
 and-ne x y rest h = rw (ne-eqb x y h)
 
+-- a bound that a call gave
+pub and-under : (x y z : ℕ) (r rest : Bool) → y ≡ z → x < y → r ≡ rest → r ≡ ltb x z && rest
+and-under x y z r rest e h k = rw (← e, lt-ltb x y h) k
+
+pub and-over : (x y z : ℕ) (rest : Bool) → y ≡ z → y ≤ x → false ≡ ltb x z && rest
+and-over x y z rest e h = rw (← e, le-ltb x y h)
+
 -- a test that a call made: its flag is the clause's
 pub and-flag : (f t r rest : Bool) → f ≡ t → f ≡ true → r ≡ rest → r ≡ t && rest
 and-flag f t r rest p q e = let h : t ≡ true = cc in rw h e
@@ -69,4 +76,4 @@ choose-ne x y r a b h e = rw (ne-eqb x y h) e
 pub same : (r : Bool) → r ≡ r
 same r = refl
 
-pub ruleset clauses = (and-lt, and-ge, and-le, and-gt, and-eq, and-ne, and-flag, and-flag-no, choose-eq, choose-ne, same, arith)
+pub ruleset clauses = (and-lt, and-ge, and-le, and-gt, and-eq, and-ne, and-under, and-over, and-flag, and-flag-no, choose-eq, choose-ne, same, arith)

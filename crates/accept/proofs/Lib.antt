@@ -1,3 +1,4 @@
 pub mod Tests
 pub mod Walks
 pub mod Codes
+pub mod Chain

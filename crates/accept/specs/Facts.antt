@@ -1,15 +1,17 @@
 -- What the checks passed so far give the next: the header's ranges, and the sections that lie in the image.
 use mathlib.Core.Path.{_≡_}
-use mathlib.Core.List.{List, [], _∷_}
+use mathlib.Core.List.{List, [], _∷_, _++_}
 use Prim.Native.Nat.{ℕ, _+_, _*_, _<_, _≤_}
 use mathlib.Core.Bool.{Bool, true, _&&_, _||_}
 use lib.Dec.{eqb, leb, ltb}
 use lib.ListN.{getD}
 use Rattle.moore.specs.Objects.{choose}
 use Rattle.scope.specs.declared.Instruction.{Instruction}
-use Rattle.scope.specs.Image.{word, instructions, firstInstruction, instructionCount, locals, constantAt, kindOf, conditionsOf}
+use Rattle.scope.specs.Image.{word, programs, instructions, firstInstruction, instructionCount, locals, constantAt, kindOf, conditionsOf}
 use Rattle.scope.specs.Cells.{cellFrom, objectp}
-use Rattle.scope.specs.Checks.{Test, test, tab, sum, boundsOf, casesOk, ends}
+use Rattle.scope.specs.Checks.{Test, test, firstFailing, tab, concat, sum, boundsOf, casesOk, ends}
+use Rattle.scope.specs.Checks.{ranges, sections, programTests, areaTests, cellTests, codeTests}
+use Rattle.scope.specs.declared.Checked.the-variants.{Fine}
 use Rattle.image.specs.declared.Counts.{Counts}
 use Rattle.accept.specs.declared.Own.{Own}
 
@@ -93,3 +95,33 @@ kindOk b n q o i kind =
 
 unfoldable pub partsOk : List ℕ → Counts → Own → ℕ → Instruction → Bool
 partsOk b n q o i = kindOk b n q o i (kindOf (i .code))
+
+-- ---- one number after the other
+
+-- each program's instructions lie in the section
+pub record Placed (b : List ℕ) : Type 0 where
+  pub lie : (p : ℕ) → p < programs b → firstInstruction b p + instructionCount b p ≤ instructions b
+  pub few : instructions b ≤ 2048
+
+-- the instructions of every program before p passed
+pub record Through (b : List ℕ) (n p : ℕ) : Type 0 where
+  pub within : p ≤ n
+  pub fine : (k : ℕ) → k < p → firstFailing (codeTests b k) ≡ Fine
+
+unfoldable pub allCodes : List ℕ → List Test
+allCodes b = concat (tab (codeTests b) (programs b))
+
+unfoldable pub afterAreas : List ℕ → List Test
+afterAreas b = cellTests b ++ allCodes b
+
+unfoldable pub afterPrograms : List ℕ → List Test
+afterPrograms b = areaTests b ++ afterAreas b
+
+unfoldable pub afterSections : List ℕ → List Test
+afterSections b = programTests b ++ afterPrograms b
+
+unfoldable pub afterRanges : List ℕ → List Test
+afterRanges b = sections b ++ afterSections b
+
+unfoldable pub afterLength : List ℕ → List Test
+afterLength b = ranges b ++ afterRanges b

@@ -7,9 +7,10 @@ ghost use lib.ListN.{length};
 ghost use Rattle.moore.specs.Objects.{choose};
 ghost use Rattle.scope.specs.Image.{word, programs, areas, constants, instructionCount, areaLength};
 ghost use Rattle.scope.specs.Checks.{firstFailing, sum, ranges, sections, programOk, programTests, areaOk, areaTests};
-ghost use Rattle.scope.specs.Checks.{everyCase, casesOk, ends, codeTests};
+ghost use Rattle.scope.specs.Checks.{everyCase, casesOk, ends, codeTests, cellTests, imageSays};
 ghost use Rattle.image.specs.Laid.{Laid, Counted};
 ghost use Rattle.accept.specs.Facts.{Ranged, Joined, fieldsOk, cellsFrom, ownOf, Owns, boundBy, kindOk, partsOk};
+ghost use Rattle.accept.specs.Facts.{Placed, allCodes, afterAreas, afterPrograms, afterSections, afterRanges, afterLength};
 use image::Counts;
 use image::Offsets;
 use scope::Cell;
@@ -30,34 +31,49 @@ fn check_ranges(image: &[u8]) -> Checked
     requires { ⌜ 52 ≤ length (now image) ⌝ }
     ensures { λ r. ⌜ r ≡ firstFailing (ranges (now (image .entry))) ⌝ }
 {
-    if in_range(image, 1, 1, 256) {
-    } else {
-        return Checked::Refused { answer: 12, place: 1 };
+    if in_range(image, 1, 1, 256) {} else {
+        return Checked::Refused {
+            answer: 12,
+            place: 1,
+        };
     }
-    if in_range(image, 2, 0, 256) {
-    } else {
-        return Checked::Refused { answer: 12, place: 2 };
+    if in_range(image, 2, 0, 256) {} else {
+        return Checked::Refused {
+            answer: 12,
+            place: 2,
+        };
     }
-    if in_range(image, 3, 1, 2048) {
-    } else {
-        return Checked::Refused { answer: 12, place: 3 };
+    if in_range(image, 3, 1, 2048) {} else {
+        return Checked::Refused {
+            answer: 12,
+            place: 3,
+        };
     }
-    if in_range(image, 4, 0, 1024) {
-    } else {
-        return Checked::Refused { answer: 12, place: 4 };
+    if in_range(image, 4, 0, 1024) {} else {
+        return Checked::Refused {
+            answer: 12,
+            place: 4,
+        };
     }
-    if in_range(image, 5, 0, 2048) {
-    } else {
-        return Checked::Refused { answer: 12, place: 5 };
+    if in_range(image, 5, 0, 2048) {} else {
+        return Checked::Refused {
+            answer: 12,
+            place: 5,
+        };
     }
-    if in_range(image, 11, 2, 2048) {
-    } else {
-        return Checked::Refused { answer: 12, place: 11 };
+    if in_range(image, 11, 2, 2048) {} else {
+        return Checked::Refused {
+            answer: 12,
+            place: 11,
+        };
     }
     if in_range(image, 12, 0, 1024) {
         Checked::Fine
     } else {
-        Checked::Refused { answer: 12, place: 12 }
+        Checked::Refused {
+            answer: 12,
+            place: 12,
+        }
     }
 }
 
@@ -78,30 +94,43 @@ fn check_sections(image: &[u8], n: Counts) -> Checked
     let constants = instructions + 8 * n.instructions;
     let cells = constants + 8 * n.constants;
     let end = cells + 8 * n.cells;
-    if is_word(image, 0, end) {
-    } else {
-        return Checked::Refused { answer: 13, place: 0 };
+    if is_word(image, 0, end) {} else {
+        return Checked::Refused {
+            answer: 13,
+            place: 0,
+        };
     }
-    if is_word(image, 6, 52) {
-    } else {
-        return Checked::Refused { answer: 13, place: 6 };
+    if is_word(image, 6, 52) {} else {
+        return Checked::Refused {
+            answer: 13,
+            place: 6,
+        };
     }
-    if is_word(image, 7, areas) {
-    } else {
-        return Checked::Refused { answer: 13, place: 7 };
+    if is_word(image, 7, areas) {} else {
+        return Checked::Refused {
+            answer: 13,
+            place: 7,
+        };
     }
-    if is_word(image, 8, instructions) {
-    } else {
-        return Checked::Refused { answer: 13, place: 8 };
+    if is_word(image, 8, instructions) {} else {
+        return Checked::Refused {
+            answer: 13,
+            place: 8,
+        };
     }
-    if is_word(image, 9, constants) {
-    } else {
-        return Checked::Refused { answer: 13, place: 9 };
+    if is_word(image, 9, constants) {} else {
+        return Checked::Refused {
+            answer: 13,
+            place: 9,
+        };
     }
     if is_word(image, 10, cells) {
         Checked::Fine
     } else {
-        Checked::Refused { answer: 13, place: 10 }
+        Checked::Refused {
+            answer: 13,
+            place: 10,
+        }
     }
 }
 
@@ -138,20 +167,16 @@ fn fields_ok(
 ) -> bool
     ensures { λ r. ⌜ r ≡ fieldsOk p earlier constants first count formals temps start zero ⌝ }
 {
-    if first as usize == earlier {
-    } else {
+    if first as usize == earlier {} else {
         return false;
     }
-    if 1 <= count {
-    } else {
+    if 1 <= count {} else {
         return false;
     }
-    if formals as usize + temps as usize <= 256 {
-    } else {
+    if formals as usize + temps as usize <= 256 {} else {
         return false;
     }
-    if temps_ok(start, temps, constants) {
-    } else {
+    if temps_ok(start, temps, constants) {} else {
         return false;
     }
     if formals_ok(p, formals) {
@@ -171,7 +196,17 @@ fn program_ok(image: &[u8], at: Offsets, n: Counts, p: usize, earlier: usize) ->
     let temps = image::program_field(image, at, p, 3);
     let start = image::program_field(image, at, p, 4);
     let zero = image::program_field(image, at, p, 5);
-    fields_ok(p, earlier, n.constants, first, count, formals, temps, start, zero)
+    fields_ok(
+        p,
+        earlier,
+        n.constants,
+        first,
+        count,
+        formals,
+        temps,
+        start,
+        zero,
+    )
 }
 
 fn check_programs(image: &[u8], at: Offsets, n: Counts) -> Checked
@@ -187,13 +222,19 @@ fn check_programs(image: &[u8], at: Offsets, n: Counts) -> Checked
             earlier = earlier + count;
             p = p + 1;
         } else {
-            return Checked::Refused { answer: 14, place: p as u32 };
+            return Checked::Refused {
+                answer: 14,
+                place: p as u32,
+            };
         }
     }
     if earlier == n.instructions {
         Checked::Fine
     } else {
-        Checked::Refused { answer: 14, place: n.programs as u32 }
+        Checked::Refused {
+            answer: 14,
+            place: n.programs as u32,
+        }
     }
 }
 
@@ -221,20 +262,33 @@ fn check_areas(image: &[u8], at: Offsets, n: Counts) -> Checked
             earlier = earlier + length;
             a = a + 1;
         } else {
-            return Checked::Refused { answer: 15, place: a as u32 };
+            return Checked::Refused {
+                answer: 15,
+                place: a as u32,
+            };
         }
     }
     if earlier == n.cells {
         Checked::Fine
     } else {
-        Checked::Refused { answer: 15, place: n.areas as u32 }
+        Checked::Refused {
+            answer: 15,
+            place: n.areas as u32,
+        }
     }
 }
 
 // ---- 16: constants and data cells
 
 // `many` cells from a byte on, the first of them at this place.
-fn check_cells(image: &[u8], at: Offsets, n: Counts, from: usize, many: usize, place: usize) -> Checked
+fn check_cells(
+    image: &[u8],
+    at: Offsets,
+    n: Counts,
+    from: usize,
+    many: usize,
+    place: usize,
+) -> Checked
     requires { ⌜ Laid (now image) at × Counted (now image) n × (from + 8 * many ≤ length (now image)) × (place ≤ 65536) ⌝ }
     ensures { λ r. ⌜ r ≡ firstFailing (cellsFrom (now (image .entry)) from many place) ⌝ }
 {
@@ -245,7 +299,10 @@ fn check_cells(image: &[u8], at: Offsets, n: Counts, from: usize, many: usize, p
         if good {
             k = k + 1;
         } else {
-            return Checked::Refused { answer: 16, place: (place + k) as u32 };
+            return Checked::Refused {
+                answer: 16,
+                place: (place + k) as u32,
+            };
         }
     }
     Checked::Fine
@@ -269,7 +326,12 @@ fn read_own(image: &[u8], at: Offsets, p: usize) -> Own
     let count = image::program_field(image, at, p, 1) as usize;
     let formals = image::program_field(image, at, p, 2) as usize;
     let temps = image::program_field(image, at, p, 3) as usize;
-    Own { program: p, first, count, locals: formals + temps }
+    Own {
+        program: p,
+        first,
+        count,
+        locals: formals + temps,
+    }
 }
 
 // Operand a is below this.
@@ -277,7 +339,17 @@ fn operand_bound(n: Counts, q: Own, kind: u8) -> usize
     ensures { λ r. ⌜ r ≡ boundBy n q kind ⌝ }
 {
     let bounds: [usize; 11] = [
-        0, 1, n.programs, n.constants, q.locals, n.areas, 1025, q.count, n.constants, q.count, q.count,
+        0,
+        1,
+        n.programs,
+        n.constants,
+        q.locals,
+        n.areas,
+        1025,
+        q.count,
+        n.constants,
+        q.count,
+        q.count,
     ];
     let k = kind as usize;
     if k < 11 { bounds[k] } else { 0 }
@@ -287,7 +359,11 @@ fn operand_bound(n: Counts, q: Own, kind: u8) -> usize
 fn is_case(c: Cell, p: usize) -> bool
     ensures { λ r. ⌜ r ≡ eqb (c .tag) 6 && eqb (c .name) p ⌝ }
 {
-    if c.tag == 6 { c.name as usize == p } else { false }
+    if c.tag == 6 {
+        c.name as usize == p
+    } else {
+        false
+    }
 }
 
 fn every_case(image: &[u8], at: Offsets, p: usize, from: usize, many: usize) -> bool
@@ -313,8 +389,7 @@ fn cases_ok(image: &[u8], at: Offsets, n: Counts, p: usize, i: Instruction) -> b
 {
     let from = i.a as usize;
     let many = i.b as usize;
-    if 1 <= many {
-    } else {
+    if 1 <= many {} else {
         return false;
     }
     if from + many <= n.constants {
@@ -329,7 +404,11 @@ fn second_ok(image: &[u8], at: Offsets, n: Counts, p: usize, kind: u8, i: Instru
     requires { ⌜ Laid (now image) at × Counted (now image) n ⌝ }
     ensures { λ r. ⌜ r ≡ choose (eqb kind 8) (casesOk (now (image .entry)) p i) (eqb (i .b) 0) ⌝ }
 {
-    if kind == 8 { cases_ok(image, at, n, p, i) } else { i.b == 0 }
+    if kind == 8 {
+        cases_ok(image, at, n, p, i)
+    } else {
+        i.b == 0
+    }
 }
 
 // RET, JUMP and JUMP-CASE.
@@ -358,19 +437,20 @@ fn kind_ok(image: &[u8], at: Offsets, n: Counts, q: Own, o: usize, i: Instructio
 {
     let conditions = kinds::conditions(kind);
     let bound = operand_bound(n, q, kind);
-    if i.condition < conditions {
-    } else {
+    if i.condition < conditions {} else {
         return false;
     }
-    if (i.a as usize) < bound {
-    } else {
+    if (i.a as usize) < bound {} else {
         return false;
     }
-    if second_ok(image, at, n, q.program, kind, i) {
-    } else {
+    if second_ok(image, at, n, q.program, kind, i) {} else {
         return false;
     }
-    if i.zero == 0 { last_ok(o, q.count, i.code) } else { false }
+    if i.zero == 0 {
+        last_ok(o, q.count, i.code)
+    } else {
+        false
+    }
 }
 
 fn parts_ok(image: &[u8], at: Offsets, n: Counts, q: Own, o: usize, i: Instruction) -> bool
@@ -392,8 +472,129 @@ fn check_code(image: &[u8], at: Offsets, n: Counts, q: Own) -> Checked
         if good {
             o = o + 1;
         } else {
-            return Checked::Refused { answer: 17, place: (q.first + o) as u32 };
+            return Checked::Refused {
+                answer: 17,
+                place: (q.first + o) as u32,
+            };
         }
     }
     Checked::Fine
+}
+
+fn check_program(image: &[u8], at: Offsets, n: Counts, p: usize) -> Checked
+    requires { ⌜ Laid (now image) at × Counted (now image) n × Placed (now image) × (p < programs (now image)) ⌝ }
+    ensures { λ r. ⌜ r ≡ firstFailing (codeTests (now (image .entry)) p) ⌝ }
+{
+    let q = read_own(image, at, p);
+    check_code(image, at, n, q)
+}
+
+fn check_codes(image: &[u8], at: Offsets, n: Counts) -> Checked
+    requires { ⌜ Laid (now image) at × Counted (now image) n × Placed (now image) ⌝ }
+    ensures { λ r. ⌜ r ≡ firstFailing (allCodes (now (image .entry))) ⌝ }
+{
+    let mut p: usize = 0;
+    while p < n.programs {
+        let one = check_program(image, at, n, p);
+        match one {
+            Checked::Fine => {
+                p = p + 1;
+            }
+            Checked::Refused { answer, place } => {
+                return Checked::Refused { answer, place };
+            }
+        }
+    }
+    Checked::Fine
+}
+
+// ---- one number after the other
+
+fn check_data(image: &[u8], at: Offsets, n: Counts) -> Checked
+    requires { ⌜ Laid (now image) at × Counted (now image) n × Ranged (now image) ⌝ }
+    ensures { λ r. ⌜ r ≡ firstFailing (cellTests (now (image .entry))) ⌝ }
+{
+    let first = check_cells(image, at, n, at.constants, n.constants, 0);
+    match first {
+        Checked::Fine => check_cells(image, at, n, at.cells, n.cells, n.constants),
+        Checked::Refused { answer, place } => Checked::Refused { answer, place },
+    }
+}
+
+fn after_areas(image: &[u8], at: Offsets, n: Counts) -> Checked
+    requires { ⌜ Laid (now image) at × Counted (now image) n × Ranged (now image) × Placed (now image) ⌝ }
+    ensures { λ r. ⌜ r ≡ firstFailing (afterAreas (now (image .entry))) ⌝ }
+{
+    let first = check_data(image, at, n);
+    match first {
+        Checked::Fine => check_codes(image, at, n),
+        Checked::Refused { answer, place } => Checked::Refused { answer, place },
+    }
+}
+
+fn after_programs(image: &[u8], at: Offsets, n: Counts) -> Checked
+    requires { ⌜ Laid (now image) at × Counted (now image) n × Ranged (now image) × Placed (now image) ⌝ }
+    ensures { λ r. ⌜ r ≡ firstFailing (afterPrograms (now (image .entry))) ⌝ }
+{
+    let first = check_areas(image, at, n);
+    match first {
+        Checked::Fine => after_areas(image, at, n),
+        Checked::Refused { answer, place } => Checked::Refused { answer, place },
+    }
+}
+
+fn after_sections(image: &[u8], at: Offsets, n: Counts) -> Checked
+    requires { ⌜ Laid (now image) at × Counted (now image) n × Ranged (now image) ⌝ }
+    ensures { λ r. ⌜ r ≡ firstFailing (afterSections (now (image .entry))) ⌝ }
+{
+    let first = check_programs(image, at, n);
+    match first {
+        Checked::Fine => after_programs(image, at, n),
+        Checked::Refused { answer, place } => Checked::Refused { answer, place },
+    }
+}
+
+fn after_ranges(image: &[u8]) -> Checked
+    requires { ⌜ (52 ≤ length (now image)) × (word (now image) 0 ≡ length (now image)) × Ranged (now image) ⌝ }
+    ensures { λ r. ⌜ r ≡ firstFailing (afterRanges (now (image .entry))) ⌝ }
+{
+    let n = image::read_counts(image);
+    let at = image::read_offsets(image);
+    let first = check_sections(image, n);
+    match first {
+        Checked::Fine => after_sections(image, at, n),
+        Checked::Refused { answer, place } => Checked::Refused { answer, place },
+    }
+}
+
+fn after_length(image: &[u8]) -> Checked
+    requires { ⌜ (52 ≤ length (now image)) × (word (now image) 0 ≡ length (now image)) ⌝ }
+    ensures { λ r. ⌜ r ≡ firstFailing (afterLength (now (image .entry))) ⌝ }
+{
+    let first = check_ranges(image);
+    match first {
+        Checked::Fine => after_ranges(image),
+        Checked::Refused { answer, place } => Checked::Refused { answer, place },
+    }
+}
+
+// What is said of an image.
+pub fn check(image: &[u8]) -> Checked
+    ensures { λ r. ⌜ r ≡ imageSays (now (image .entry)) ⌝ }
+{
+    if image.len() < 52 {
+        return Checked::Refused {
+            answer: 11,
+            place: 0,
+        };
+    }
+    let total = image::header_word(image, 0) as usize;
+    if total == image.len() {
+        after_length(image)
+    } else {
+        Checked::Refused {
+            answer: 11,
+            place: 0,
+        }
+    }
 }

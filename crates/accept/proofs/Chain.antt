@@ -1,0 +1,255 @@
+-- One number after the other: checks in a row, and what a check that passed gives the next.
+use mathlib.Core.Path.{_≡_, refl, sym, ap, _∙_}
+use mathlib.Core.List.{List, [], _∷_, _++_}
+use mathlib.Core.Bool.{Bool, true, false, _&&_}
+use Prim.Native.Nat.{ℕ, zero, suc, _+_, _-_, _*_, _<_, _≤_}
+use native.Mathlib.Omega.{arith}
+use native.Mathlib.Nat.{zero-add}
+use borrow.Author.Count.{below-more}
+use borrow.Author.Tests.{leb-true, eqb-true, le-leb, lt-leb, eq-eqb, ne-eqb}
+use lib.Dec.{eqb, leb}
+use lib.ListN.{length}
+use Rattle.moore.specs.Objects.{choose}
+use Rattle.scope.specs.declared.Checked.{Checked}
+use Rattle.scope.specs.declared.Checked.the-variants.{Fine, Refused}
+use Rattle.scope.specs.Image.{word, programs, instructions, constants, dataCells, constantAt, dataCellAt, firstInstruction, instructionCount}
+use Rattle.scope.specs.Cells.{objectp}
+use Rattle.scope.specs.Checks.{Test, test, firstFailing, tab, concat, sum, ranges, sections, programOk, programTests, boundsOf, cellTests, codeTests}
+use Rattle.scope.specs.Checks.{allInstructions, lengthOk, imageTests, imageSays}
+use Rattle.scope.specs.Calls.{andThen}
+use Rattle.scope.proofs.Bools.{clash, and-both}
+use Rattle.image.specs.declared.Counts.{Counts}
+use Rattle.image.specs.declared.Offsets.{Offsets}
+use Rattle.image.specs.Laid.{Laid, Counted, countsOf, offsetsOf}
+use Rattle.accept.specs.declared.Own.{Own}
+use Rattle.accept.specs.Facts.{Ranged, Joined, Placed, Through, Owns, ownOf, allCodes, cellOk, cellsFrom}
+use Rattle.accept.specs.Facts.{afterAreas, afterPrograms, afterSections, afterRanges, afterLength}
+
+-- ---- one list of tests and then another
+
+push : (v : Bool) (x z : Checked) (n p : ℕ) → choose v (andThen x z) (Refused n p) ≡ andThen (choose v x (Refused n p)) z
+unfolding choose andThen
+push true x z n p = refl
+push false x z n p = refl
+
+pub append-says : (ts us : List Test) → firstFailing (ts ++ us) ≡ andThen (firstFailing ts) (firstFailing us)
+unfolding firstFailing andThen
+append-says [] us = refl
+append-says (t ∷ ts) us =
+    ap (λ (r : Checked). choose (t .holds) r (Refused (t .number) (t .place))) (append-says ts us)
+    ∙ push (t .holds) (firstFailing ts) (firstFailing us) (t .number) (t .place)
+
+pub then-fine : (ts us : List Test) (x r : Checked) → x ≡ firstFailing ts → x ≡ Fine → r ≡ firstFailing us → r ≡ firstFailing (ts ++ us)
+unfolding andThen
+then-fine ts us x r e f k = let q : firstFailing ts ≡ Fine = cc in k ∙ sym (append-says ts us ∙ rw q)
+
+pub then-refused : (ts us : List Test) (x : Checked) (n p : ℕ) → x ≡ firstFailing ts → x ≡ Refused n p → Refused n p ≡ firstFailing (ts ++ us)
+unfolding andThen
+then-refused ts us x n p e f = let q : firstFailing ts ≡ Refused n p = cc in sym (append-says ts us ∙ rw q)
+
+pub ruleset chain = (then-fine, then-refused)
+
+-- ---- what a check that passed says
+
+pub head-fine : (h : Bool) (n p : ℕ) (ts : List Test) → firstFailing (test n p h ∷ ts) ≡ Fine → (h ≡ true) × (firstFailing ts ≡ Fine)
+unfolding firstFailing choose
+head-fine true n p ts e = (refl, e)
+head-fine false n p ts e = let z : _≡_ {A = ℕ} 0 1 = cc in absurd (omega arith)
+
+both-fine : (x y : Checked) → andThen x y ≡ Fine → (x ≡ Fine) × (y ≡ Fine)
+unfolding andThen
+both-fine Fine y e = (refl, e)
+both-fine (Refused n p) y e = let z : _≡_ {A = ℕ} 0 1 = cc in absurd (omega arith)
+
+pub append-fine : (ts us : List Test) → firstFailing (ts ++ us) ≡ Fine → (firstFailing ts ≡ Fine) × (firstFailing us ≡ Fine)
+append-fine ts us e = both-fine (firstFailing ts) (firstFailing us) (sym (append-says ts us) ∙ e)
+
+pub tab-fine : (f : ℕ → Test) (n : ℕ) → firstFailing (tab f n) ≡ Fine → (k : ℕ) → k < n → f k .holds ≡ true
+tab-fine f zero e k l = absurd (omega arith)
+tab-fine f (suc n) e zero l = head-fine (f 0 .holds) (f 0 .number) (f 0 .place) _ e .0
+tab-fine f (suc n) e (suc k) l =
+    tab-fine (λ i. f (suc i)) n (head-fine (f 0 .holds) (f 0 .number) (f 0 .place) _ e .1) k (omega arith)
+
+-- ---- 12
+
+within : (b : List ℕ) (k low high : ℕ) → leb low (word b k) && leb (word b k) high ≡ true → (low ≤ word b k) × (word b k ≤ high)
+within b k low high e = let t = and-both (leb low (word b k)) (leb (word b k) high) e in (leb-true _ _ (t .0), leb-true _ _ (t .1))
+
+pub ranged : (b : List ℕ) (x : Checked) → x ≡ firstFailing (ranges b) → x ≡ Fine → Ranged b
+unfolding ranges
+ranged b x e f =
+    let t1 = head-fine _ 12 1 _ (sym e ∙ f) in
+    let t2 = head-fine _ 12 2 _ (t1 .1) in
+    let t3 = head-fine _ 12 3 _ (t2 .1) in
+    let t4 = head-fine _ 12 4 _ (t3 .1) in
+    let t5 = head-fine _ 12 5 _ (t4 .1) in
+    let t6 = head-fine _ 12 11 _ (t5 .1) in
+    let t7 = head-fine _ 12 12 _ (t6 .1) in
+    record {
+      programs = within b 1 1 256 (t1 .0);
+      areas = within b 2 0 256 (t2 .0) .1;
+      instructions = within b 3 1 2048 (t3 .0);
+      constants = within b 4 0 1024 (t4 .0) .1;
+      cells = within b 5 0 2048 (t5 .0) .1;
+      control = within b 11 2 2048 (t6 .0);
+      temporary = within b 12 0 1024 (t7 .0) .1;
+    }
+
+-- ---- 13
+
+pub joined : (b : List ℕ) (x : Checked) → x ≡ firstFailing (sections b) → x ≡ Fine → Joined b
+unfolding sections
+joined b x e f =
+    let t0 = head-fine _ 13 0 _ (sym e ∙ f) in
+    let t6 = head-fine _ 13 6 _ (t0 .1) in
+    let t7 = head-fine _ 13 7 _ (t6 .1) in
+    let t8 = head-fine _ 13 8 _ (t7 .1) in
+    let t9 = head-fine _ 13 9 _ (t8 .1) in
+    let t10 = head-fine _ 13 10 _ (t9 .1) in
+    let q0 = eqb-true (word b 0) _ (t0 .0) in
+    let q6 = eqb-true (word b 6) _ (t6 .0) in
+    let q7 = eqb-true (word b 7) _ (t7 .0) in
+    let q8 = eqb-true (word b 8) _ (t8 .0) in
+    let q9 = eqb-true (word b 9) _ (t9 .0) in
+    let q10 = eqb-true (word b 10) _ (t10 .0) in
+    record { total = omega arith; programs = q6; areas = omega arith; instructions = omega arith; constants = omega arith; cells = omega arith }
+
+pub laid : (b : List ℕ) (at : Offsets) → 52 ≤ length b → word b 0 ≡ length b → Ranged b → Joined b → at ≡ offsetsOf b → Laid b at
+laid b at l w r j e =
+    record {
+      programs-at = ap (λ (o : Offsets). o .programs) e;
+      areas-at = ap (λ (o : Offsets). o .areas) e;
+      instructions-at = ap (λ (o : Offsets). o .instructions) e;
+      constants-at = ap (λ (o : Offsets). o .constants) e;
+      cells-at = ap (λ (o : Offsets). o .cells) e;
+      programs-in = omega (arith, r, j, ap (λ (o : Offsets). o .programs) e);
+      areas-in = omega (arith, r, j, ap (λ (o : Offsets). o .areas) e);
+      instructions-in = omega (arith, r, j, ap (λ (o : Offsets). o .instructions) e);
+      constants-in = omega (arith, r, j, ap (λ (o : Offsets). o .constants) e);
+      cells-in = omega (arith, r, j, ap (λ (o : Offsets). o .cells) e);
+      small = omega (arith, r, j);
+    }
+
+pub counted : (b : List ℕ) (n : Counts) → n ≡ countsOf b → Counted b n
+counted b n e =
+    record {
+      programs-are = ap (λ (o : Counts). o .programs) e;
+      areas-are = ap (λ (o : Counts). o .areas) e;
+      instructions-are = ap (λ (o : Counts). o .instructions) e;
+      constants-are = ap (λ (o : Counts). o .constants) e;
+      cells-are = ap (λ (o : Counts). o .cells) e;
+      control-is = ap (λ (o : Counts). o .control) e;
+      temporary-is = ap (λ (o : Counts). o .temporary) e;
+    }
+
+-- ---- 14
+
+-- a sum of more is no less
+sum-more : (f : ℕ → ℕ) (m d : ℕ) → sum f m ≤ sum f (m + d)
+sum-more f m zero = let e : m + 0 ≡ m = omega arith in rw e (omega arith)
+sum-more f m (suc d) = let e : m + suc d ≡ suc (m + d) = omega arith in rw e (omega (arith, sum-more f m d))
+
+sum-later : (f : ℕ → ℕ) (m n : ℕ) → m ≤ n → sum f m ≤ sum f n
+sum-later f m n l = let e : n ≡ m + (n - m) = omega arith in rw e (sum-more f m (n - m))
+
+pub placed : (b : List ℕ) (x : Checked) → x ≡ firstFailing (programTests b) → x ≡ Fine → Ranged b → Placed b
+unfolding programTests programOk
+placed b x e f r = record { lie = lie; few = r .instructions .1 }
+  where
+    t : (firstFailing (tab (λ p. test 14 p (programOk b p)) (programs b)) ≡ Fine) × (firstFailing (test 14 (programs b) (allInstructions b) ∷ []) ≡ Fine)
+    t = append-fine (tab (λ p. test 14 p (programOk b p)) (programs b)) (test 14 (programs b) (allInstructions b) ∷ []) (sym e ∙ f)
+
+    all : sum (instructionCount b) (programs b) ≡ instructions b
+    all = eqb-true _ _ (head-fine (allInstructions b) 14 (programs b) [] (t .1) .0)
+
+    lie : (p : ℕ) → p < programs b → firstInstruction b p + instructionCount b p ≤ instructions b
+    lie p l =
+        let q = tab-fine (λ p. test 14 p (programOk b p)) (programs b) (t .0) p l in
+        let first : firstInstruction b p ≡ sum (instructionCount b) p = eqb-true _ _ (and-both (eqb (firstInstruction b p) (sum (instructionCount b) p)) _ q .0) in
+        omega (arith, all, first, sum-later (instructionCount b) (suc p) (programs b) l)
+
+-- ---- 16
+
+tab-same : (f g : ℕ → Test) (n : ℕ) → ((k : ℕ) → f k ≡ g k) → tab f n ≡ tab g n
+tab-same f g zero h = refl
+tab-same f g (suc n) h = rw (h 0) (ap (λ (l : List Test). g 0 ∷ l) (tab-same (λ i. f (suc i)) (λ i. g (suc i)) n (λ k. h (suc k))))
+
+first-cells : (b : List ℕ) → cellsFrom b (word b 9) (constants b) 0 ≡ tab (λ k. test 16 k (objectp (boundsOf b) (constantAt b k))) (constants b)
+unfolding cellsFrom cellOk
+first-cells b =
+    tab-same (λ k. test 16 (0 + k) (objectp (boundsOf b) (constantAt b k))) (λ k. test 16 k (objectp (boundsOf b) (constantAt b k))) (constants b)
+    (λ k. ap (λ (p : ℕ). test 16 p (objectp (boundsOf b) (constantAt b k))) (zero-add k))
+
+all-cells : (b : List ℕ) → cellsFrom b (word b 9) (constants b) 0 ++ cellsFrom b (word b 10) (dataCells b) (constants b) ≡ cellTests b
+unfolding cellsFrom cellOk cellTests
+all-cells b = ap (λ (ts : List Test). ts ++ cellsFrom b (word b 10) (dataCells b) (constants b)) (first-cells b)
+
+pub by-cells : (b : List ℕ) (at : Offsets) (n : Counts) (r : Checked) → Laid b at → Counted b n
+    → r ≡ firstFailing (cellsFrom b (at .constants) (n .constants) 0 ++ cellsFrom b (at .cells) (n .cells) (n .constants))
+    → r ≡ firstFailing (cellTests b)
+by-cells b at n r l k e =
+    e ∙ rw (l .constants-at, l .cells-at, k .constants-are, k .cells-are) (ap firstFailing (all-cells b))
+
+-- ---- 17
+
+pub owned : (b : List ℕ) (q : Own) (p : ℕ) → q ≡ ownOf b p → Placed b → p < programs b → Owns b q
+owned b q p e w l =
+    let t : Owns b (ownOf b p) = record { first-is = refl; count-is = refl; locals-are = refl; lie = w .lie p l; few = w .few } in
+    rw e t
+
+pub of-own : (b : List ℕ) (q : Own) (p : ℕ) (r : Checked) → q ≡ ownOf b p → r ≡ firstFailing (codeTests b (q .program)) → r ≡ firstFailing (codeTests b p)
+of-own b q p r e h = h ∙ ap (λ (o : Own). firstFailing (codeTests b (o .program))) e
+
+concat-over : (f : ℕ → List Test) (n : ℕ) → ((k : ℕ) → k < n → firstFailing (f k) ≡ Fine) → firstFailing (concat (tab f n)) ≡ Fine
+unfolding firstFailing
+concat-over f zero h = refl
+concat-over f (suc n) h =
+    sym (then-fine (f 0) (concat (tab (λ i. f (suc i)) n)) (firstFailing (f 0)) Fine refl (h 0 (omega arith))
+    (sym (concat-over (λ i. f (suc i)) n (λ k l. h (suc k) (omega arith)))))
+
+concat-stop : (f : ℕ → List Test) (n i a q : ℕ) → i < n → ((k : ℕ) → k < i → firstFailing (f k) ≡ Fine) → firstFailing (f i) ≡ Refused a q
+    → firstFailing (concat (tab f n)) ≡ Refused a q
+concat-stop f zero i a q l h e = absurd (omega arith)
+concat-stop f (suc n) zero a q l h e = sym (then-refused (f 0) (concat (tab (λ i. f (suc i)) n)) (firstFailing (f 0)) a q refl e)
+concat-stop f (suc n) (suc i) a q l h e =
+    sym (then-fine (f 0) (concat (tab (λ i. f (suc i)) n)) (firstFailing (f 0)) (Refused a q) refl (h 0 (omega arith))
+    (sym (concat-stop (λ k. f (suc k)) n i a q (omega arith) (λ k m. h (suc k) (omega arith)) e)))
+
+pub through-start : (b : List ℕ) (n : ℕ) → Through b n 0
+through-start b n = record { within = omega arith; fine = λ k l. absurd (omega arith) }
+
+pub through-next : (b : List ℕ) (n p : ℕ) (x : Checked) → Through b n p → p < n → x ≡ firstFailing (codeTests b p) → x ≡ Fine → Through b n (p + 1)
+through-next b n p x t l e f =
+    record { within = omega arith; fine = below-more (λ (k : ℕ). firstFailing (codeTests b k) ≡ Fine) p (t .fine) (sym e ∙ f) }
+
+module _ (b : List ℕ) (n : Counts) (k : Counted b n) (p : ℕ) (t : Through b (n .programs) p) where
+  pub through-stop : (x : Checked) (a q : ℕ) → p < n .programs → x ≡ firstFailing (codeTests b p) → x ≡ Refused a q
+      → Refused a q ≡ firstFailing (allCodes b)
+  unfolding allCodes
+  through-stop x a q l e f = sym (concat-stop (codeTests b) (programs b) p a q (omega (arith, k .programs-are)) (t .fine) (sym e ∙ f))
+
+  pub through-over : n .programs ≤ p → Fine ≡ firstFailing (allCodes b)
+  unfolding allCodes
+  through-over l = sym (concat-over (codeTests b) (programs b) (λ j m. t .fine j (omega (arith, k .programs-are))))
+
+pub ruleset codes = (owned, of-own, through-start, through-next, through-stop, through-over, arith)
+
+-- ---- 11, and all of it
+
+whole : (b : List ℕ) → imageTests b ≡ test 11 0 (lengthOk b) ∷ afterLength b
+unfolding imageTests afterLength afterRanges afterSections afterPrograms afterAreas allCodes
+whole b = refl
+
+pub too-short : (b : List ℕ) → length b < 52 → Refused 11 0 ≡ imageSays b
+unfolding imageSays firstFailing choose
+too-short b h = rw (whole b, lt-leb 52 (length b) h)
+
+pub other-length : (b : List ℕ) (w : ℕ) → 52 ≤ length b → w ≡ word b 0 → (w ≡ length b → ⊥) → Refused 11 0 ≡ imageSays b
+unfolding imageSays firstFailing choose
+other-length b w h e n = rw (whole b, le-leb 52 (length b) h, ne-eqb (word b 0) (length b) (λ q. n (e ∙ q)))
+
+pub then-length : (b : List ℕ) (w : ℕ) (r : Checked) → 52 ≤ length b → w ≡ word b 0 → w ≡ length b → r ≡ firstFailing (afterLength b) → r ≡ imageSays b
+unfolding imageSays firstFailing choose
+then-length b w r h e q k = k ∙ sym (rw (whole b, le-leb 52 (length b) h, eq-eqb (word b 0) (length b) (sym e ∙ q)))
+
+pub ruleset lengths = (too-short, other-length, then-length, arith)

@@ -1,0 +1,40 @@
+use Rattle.accept.specs.Facts.{afterAreas}
+use Rattle.accept.proofs.Chain.{chain}
+use borrow.Author.Needs.{needs}
+use Rattle.accept.proofs.after_areas.Statement.{statement}
+use Rattle.accept.proofs.after_areas.Tie as tie
+use Rattle.accept.proofs.after_areas.Reads as reads
+use Rattle.accept.proofs.after_areas.Lts as lts
+use Rattle.accept.proofs.check_codes.Reads as check-codes-reads
+use Rattle.accept.proofs.check_data.Reads as check-data-reads
+
+check-data-requires : tie.Need-check-data-requires
+check-data-requires c κs = search needs
+
+enum-told : tie.Need-enum-told
+enum-told c = search needs
+
+check-codes-requires : tie.Need-check-codes-requires
+check-codes-requires c κs = search needs
+
+enum-known-first : tie.Need-enum-known-first
+enum-known-first c = search needs
+
+returns : tie.Need-returns
+unfolding afterAreas
+returns c = search chain
+
+returns-2 : tie.Need-returns-2
+unfolding afterAreas
+returns-2 c = search chain
+
+pub after-areas-spec : {M : Type 1} → statement M
+after-areas-spec =
+    tie.close
+    (tie.spec
+    check-data-requires
+    enum-told
+    check-codes-requires
+    enum-known-first
+    returns
+    returns-2)

@@ -200,7 +200,7 @@ owned b q p e w l =
 pub of-own : (b : List ℕ) (q : Own) (p : ℕ) (r : Checked) → q ≡ ownOf b p → r ≡ firstFailing (codeTests b (q .program)) → r ≡ firstFailing (codeTests b p)
 of-own b q p r e h = h ∙ ap (λ (o : Own). firstFailing (codeTests b (o .program))) e
 
-concat-over : (f : ℕ → List Test) (n : ℕ) → ((k : ℕ) → k < n → firstFailing (f k) ≡ Fine) → firstFailing (concat (tab f n)) ≡ Fine
+pub concat-over : (f : ℕ → List Test) (n : ℕ) → ((k : ℕ) → k < n → firstFailing (f k) ≡ Fine) → firstFailing (concat (tab f n)) ≡ Fine
 unfolding firstFailing
 concat-over f zero h = refl
 concat-over f (suc n) h =

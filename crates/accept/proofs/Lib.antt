@@ -2,3 +2,4 @@ pub mod Tests
 pub mod Walks
 pub mod Codes
 pub mod Chain
+pub mod Exact

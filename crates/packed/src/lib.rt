@@ -1,0 +1,1 @@
+// The packed machine: definitions in specs/. The crate has no code.

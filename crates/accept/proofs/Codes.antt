@@ -1,12 +1,14 @@
 -- Laws of the check of an instruction.
-use mathlib.Core.Path.{_≡_, refl, sym, ap, _∙_}
+use mathlib.Core.Path.{_≡_, refl, sym, ap, subst, _∙_}
 use mathlib.Core.List.{List, [], _∷_, _++_}
 use mathlib.Core.Bool.{Bool, true, false, _&&_, _||_}
-use Prim.Native.Nat.{ℕ, zero, suc, _+_, _*_, _<_, _≤_}
+use Prim.Native.Nat.{ℕ, zero, suc, _+_, _-_, _*_, _<_, _≤_}
 use native.Mathlib.Omega.{arith}
-use borrow.Author.Tests.{eq-eqb, ne-eqb, lt-ltb, le-ltb}
+use borrow.Author.Tests.{eqb-true, le-leb, lt-leb, eq-eqb, ne-eqb, lt-ltb, le-ltb}
 use lib.Dec.{eqb, ltb, leb}
-use lib.ListN.{getD, List·getD-eq-default}
+use native.Mathlib.Decide.{decLt, ℕ-discrete}
+use lib.ListN.{length, getD, set, length-set, List·getD-eq-default}
+use lib.Seq.{getD-set-same, getD-set-other}
 use Rattle.moore.specs.Objects.{choose}
 use Rattle.scope.specs.declared.Cell.{Cell}
 use Rattle.scope.specs.declared.Instruction.{Instruction}
@@ -14,11 +16,11 @@ use Rattle.scope.specs.declared.Checked.{Checked}
 use Rattle.scope.specs.declared.Checked.the-variants.{Fine, Refused}
 use Rattle.scope.specs.Image.{constants, constantAt, instructionAt, firstInstruction, instructionCount, operandBound, kindOf}
 use Rattle.scope.specs.Checks.{Test, test, tab, concat, firstFailing, everyCase, casesOk, ends, instructionOk, codeTests}
-use Rattle.scope.proofs.Bools.{clash, and-le, and-gt}
+use Rattle.scope.proofs.Bools.{clash, and-both, and-le, and-gt}
 use Rattle.image.specs.declared.Counts.{Counts}
 use Rattle.image.specs.Laid.{Counted}
 use Rattle.accept.specs.declared.Own.{Own}
-use Rattle.accept.specs.Facts.{Passing, caseAt, Owns, boundBy, kindOk, partsOk}
+use Rattle.accept.specs.Facts.{Passing, caseAt, RunAt, RunsFrom, Owns, boundBy, kindOk, partsOk}
 use Rattle.accept.proofs.Walks.{passing-start, passing-next, passing-stop, passing-over}
 
 -- ---- the end of a program
@@ -93,23 +95,110 @@ every-false b p a (suc n) zero l e = either (eqb (constantAt b a .tag) 6) (eqb (
 every-false b p a (suc n) (suc k) l e =
     later (eqb (constantAt b a .tag) 6) (eqb (constantAt b a .name) p) (everyCase b p (suc a) n) (every-false b p (suc a) n k (omega arith) (next-case b p a k ∙ e))
 
-module _ (b : List ℕ) (p from n k : ℕ) (w : Passing (caseAt b p from) n k) where
-  case-flag : (c : Cell) (g t : Bool) → c ≡ constantAt b (from + k) → g ≡ eqb (c .tag) 6 && eqb (c .name) p → g ≡ t → caseAt b p from k ≡ t
-  unfolding caseAt
-  case-flag c g t e q h = ap (λ (x : Cell). eqb (x .tag) 6 && eqb (x .name) p) (sym e) ∙ sym q ∙ h
+-- ---- runs of cases
 
-  pub cases-next : (c : Cell) (g : Bool) → k < n → c ≡ constantAt b (from + k) → g ≡ eqb (c .tag) 6 && eqb (c .name) p → g ≡ true
-      → Passing (caseAt b p from) n (k + 1)
-  cases-next c g l e q h = passing-next _ n k w l (case-flag c g true e q h)
+shifted : (b : List ℕ) (p k j : ℕ) → caseAt b p (k + 1) j ≡ caseAt b p k (suc j)
+unfolding caseAt
+shifted b p k j = let e : k + 1 + j ≡ k + suc j = omega arith in rw e
 
-  pub cases-stop : (c : Cell) (g : Bool) → k < n → c ≡ constantAt b (from + k) → g ≡ eqb (c .tag) 6 && eqb (c .name) p → g ≡ false
-      → false ≡ everyCase b p from n
-  cases-stop c g l e q h = sym (every-false b p from n k l (case-flag c g false e q h))
+own-case : (b : List ℕ) (k : ℕ) → constantAt b k .tag ≡ 6 → caseAt b (constantAt b k .name) k 0 ≡ true
+own-case b k h = first-case b _ k ∙ rw (eq-eqb _ 6 h, eq-eqb _ _ refl)
 
-  pub cases-over : n ≤ k → true ≡ everyCase b p from n
-  cases-over l = sym (every-true b p from n (λ j m. w .passed j (omega arith)))
+module _ (b : List ℕ) (k : ℕ) (c : Cell) (e : c ≡ constantAt b k) (l : k < constants b) where
+  tag-is : (t : ℕ) → c .tag ≡ t → constantAt b k .tag ≡ t
+  tag-is t h = ap (λ (x : Cell). x .tag) (sym e) ∙ h
 
-pub ruleset case-walks = (passing-start, cases-next, cases-stop, cases-over, arith)
+  pub run-none : (c .tag ≡ 6 → ⊥) → RunAt b k 0
+  run-none h =
+      record {
+        within = omega arith;
+        alike = λ j m. absurd (omega arith);
+        ends = λ t m. absurd (h (ap (λ (x : Cell). x .tag) e ∙ t));
+      }
+
+  one-alike : c .tag ≡ 6 → (j : ℕ) → j < 1 → caseAt b (constantAt b k .name) k j ≡ true
+  one-alike h zero m = own-case b k (tag-is 6 h)
+  one-alike h (suc j) m = absurd (omega arith)
+
+  pub run-last : (n : Counts) → Counted b n → c .tag ≡ 6 → n .constants ≤ k + 1 → RunAt b k 1
+  run-last n w h m =
+      record { within = omega arith; alike = one-alike h; ends = λ t q. absurd (omega (arith, w .constants-are)) }
+
+  module _ (d : Cell) (f : d ≡ constantAt b (k + 1)) (p : ℕ) (q : p ≡ c .name) (g : Bool) (w : g ≡ eqb (d .tag) 6 && eqb (d .name) p) where
+    next-is : g ≡ caseAt b (constantAt b k .name) k 1
+    unfolding caseAt
+    next-is =
+        w ∙ ap (λ (x : Cell). eqb (x .tag) 6 && eqb (x .name) p) f
+        ∙ ap (λ (m : ℕ). eqb (constantAt b (k + 1) .tag) 6 && eqb (constantAt b (k + 1) .name) m) (q ∙ ap (λ (x : Cell). x .name) e)
+
+    pub run-one : c .tag ≡ 6 → g ≡ false → RunAt b k 1
+    run-one h t = record { within = omega arith; alike = one-alike h; ends = λ u m. sym next-is ∙ t }
+
+    same-name : g ≡ true → constantAt b (k + 1) .name ≡ constantAt b k .name
+    unfolding caseAt
+    same-name t = eqb-true _ _ (and-both (eqb (constantAt b (k + 1) .tag) 6) _ (sym next-is ∙ t) .1)
+
+    next-tag : g ≡ true → constantAt b (k + 1) .tag ≡ 6
+    unfolding caseAt
+    next-tag t = eqb-true _ _ (and-both (eqb (constantAt b (k + 1) .tag) 6) _ (sym next-is ∙ t) .0)
+
+    pub run-more : (runs : List ℕ) (n : Counts) → Counted b n → RunsFrom b runs (k + 1) → k + 1 < n .constants → c .tag ≡ 6 → g ≡ true
+        → RunAt b k (getD runs (k + 1) 0 + 1)
+    run-more runs n v z m h t = more (z .right (k + 1) (omega arith) (omega (arith, v .constants-are)))
+      where
+        more : RunAt b (k + 1) (getD runs (k + 1) 0) → RunAt b k (getD runs (k + 1) 0 + 1)
+        more r =
+            record {
+              within = omega (arith, r .within);
+              alike = go;
+              ends = λ u x.
+                  let i : getD runs (k + 1) 0 + 1 ≡ suc (getD runs (k + 1) 0) = omega arith in
+                  rw i (sym (shifted b _ k _) ∙ ap (λ (a : ℕ). caseAt b a (k + 1) (getD runs (k + 1) 0)) (sym (same-name t)) ∙ r .ends (next-tag t) (omega arith));
+            }
+          where
+            go : (j : ℕ) → j < getD runs (k + 1) 0 + 1 → caseAt b (constantAt b k .name) k j ≡ true
+            go zero x = own-case b k (tag-is 6 h)
+            go (suc j) x = sym (shifted b _ k j) ∙ ap (λ (a : ℕ). caseAt b a (k + 1) j) (sym (same-name t)) ∙ r .alike j (omega arith)
+
+pub ruleset runs-at = (run-none, run-last, run-one, run-more, arith)
+
+-- a run is no longer than the constants are many
+pub run-small : (b runs : List ℕ) (low k : ℕ) → RunsFrom b runs low → low ≤ k → k < constants b → getD runs k 0 ≤ 1024
+run-small b runs low k z l m = omega (arith, z .few, z .right k l m .within)
+
+pub runs-none : (b runs : List ℕ) (n : Counts) → Counted b n → constants b ≤ 1024 → constants b ≤ length runs → RunsFrom b runs (n .constants)
+runs-none b runs n k f l = record { few = f; long = l; right = λ j m u. absurd (omega (arith, k .constants-are)) }
+
+runs-next : (b runs : List ℕ) (k r : ℕ) → RunsFrom b runs (k + 1) → RunAt b k r → k < length runs → RunsFrom b (set runs k r) k
+runs-next b runs k r z a l = record { few = z .few; long = omega (arith, z .long, length-set runs k r); right = λ j m u. by j m u (ℕ-discrete j k) }
+  where
+    by : (j : ℕ) → k ≤ j → j < constants b → Dec (j ≡ k) → RunAt b j (getD (set runs k r) j 0)
+    by j m u (yes e) =
+        subst (λ (i : ℕ). RunAt b i (getD (set runs k r) i 0)) (sym e) (subst (RunAt b k) (sym (getD-set-same runs k r 0 l)) a)
+    by j m u (no e) = subst (RunAt b j) (sym (getD-set-other runs k j r 0 e)) (z .right j (omega arith) u)
+
+module _ (b runs : List ℕ) (z : RunsFrom b runs 0) (p a many : ℕ) (c : Cell) (e : c ≡ constantAt b a) (g : Bool)
+    (h : g ≡ eqb (c .tag) 6 && eqb (c .name) p) (n : Counts) (w : Counted b n) (s : 1 ≤ many) (l : a + many ≤ n .constants) where
+  first-is : g ≡ caseAt b p a 0
+  first-is = h ∙ ap (λ (x : Cell). eqb (x .tag) 6 && eqb (x .name) p) e ∙ sym (first-case b p a)
+
+  pub run-short : g ≡ false → false ≡ everyCase b p a many
+  run-short t = sym (every-false b p a many 0 s (sym first-is ∙ t))
+
+  pub run-long : g ≡ true → leb many (getD runs a 0) ≡ everyCase b p a many
+  run-long t = by (z .right a (omega arith) (omega (arith, w .constants-are))) (decLt (getD runs a 0) many)
+    where
+      q : (constantAt b a .tag ≡ 6) × (constantAt b a .name ≡ p)
+      q = let x = and-both (eqb (constantAt b a .tag) 6) _ (sym (first-case b p a) ∙ sym first-is ∙ t) in (eqb-true _ _ (x .0), eqb-true _ _ (x .1))
+
+      by : RunAt b a (getD runs a 0) → Dec (getD runs a 0 < many) → leb many (getD runs a 0) ≡ everyCase b p a many
+      by r (yes m) =
+          lt-leb many (getD runs a 0) m
+          ∙ sym (every-false b p a many (getD runs a 0) m
+          (ap (λ (x : ℕ). caseAt b x a (getD runs a 0)) (sym (q .1)) ∙ r .ends (q .0) (omega (arith, w .constants-are))))
+      by r (no m) =
+          le-leb many (getD runs a 0) (omega arith)
+          ∙ sym (every-true b p a many (λ j x. ap (λ (y : ℕ). caseAt b y a j) (sym (q .1)) ∙ r .alike j (omega arith)))
 
 -- the limit of the constants, as it was read
 pub by-constants : (b : List ℕ) (n : Counts) (x : ℕ) (r rest : Bool) → Counted b n → x ≤ n .constants → r ≡ rest → r ≡ leb x (constants b) && rest
@@ -160,3 +249,17 @@ module _ (b : List ℕ) (n : Counts) (q : Own) (k : Counted b n) (w : Owns b q) 
       passing-over (instructionOk b (q .program)) 17 (λ j. q .first + j) (q .count) o v l ∙ rw (w .first-is, w .count-is)
 
 pub ruleset code-walks = (passing-start, code-next, code-stop, code-over, arith)
+
+-- the same one place lower, as the loop over the constants goes down
+pub runs-here : (b runs : List ℕ) (k : ℕ) → RunsFrom b runs k → 0 < k → RunsFrom b runs (k - 1 + 1)
+runs-here b runs k z l = let e : k - 1 + 1 ≡ k = omega arith in rw e z
+
+pub runs-down : (b runs : List ℕ) (n : Counts) (k r : ℕ) → Counted b n → RunsFrom b runs k → 0 < k → k ≤ n .constants → RunAt b (k - 1) r
+    → RunsFrom b (set runs (k - 1) r) (k - 1)
+runs-down b runs n k r v z l m a = runs-next b runs (k - 1) r (runs-here b runs k z l) a (omega (arith, z .long, v .constants-are))
+
+pub runs-end : (b runs : List ℕ) (k : ℕ) → RunsFrom b runs k → k ≤ 0 → RunsFrom b runs 0
+runs-end b runs k z l = let e : k ≡ 0 = omega arith in rw e at z
+
+pub place-small : (b : List ℕ) (q : Own) (o : ℕ) → Owns b q → o < q .count → o < 65536
+place-small b q o w l = omega (arith, w .lie, w .few)

@@ -120,7 +120,7 @@ accepted-formed b e =
       every-constant = tab-fine (λ k. test 16 k (objectp (boundsOf b) (constantAt b k))) (constants b) (cells-fine .0);
       every-cell = tab-fine (λ k. test 16 (constants b + k) (objectp (boundsOf b) (dataCellAt b k))) (dataCells b) (cells-fine .1);
       every-instruction = λ p o l m.
-      tab-fine (λ o. test 17 (firstInstruction b p + o) (instructionOk b p o)) (instructionCount b p) (concat-fine (codeTests b) (programs b) (t16 .1) p l) o m;
+          tab-fine (λ o. test 17 (firstInstruction b p + o) (instructionOk b p o)) (instructionCount b p) (concat-fine (codeTests b) (programs b) (t16 .1) p l) o m;
     }
 
 pub formed-accepted : (b : List ℕ) → WellFormed b → imageSays b ≡ Fine

@@ -2,12 +2,12 @@
 use mathlib.Core.Path.{_≡_}
 use mathlib.Core.List.{List, [], _∷_, _++_}
 use Prim.Native.Nat.{ℕ, _+_, _*_, _<_, _≤_}
-use mathlib.Core.Bool.{Bool, true, _&&_, _||_}
+use mathlib.Core.Bool.{Bool, true, false, _&&_, _||_}
 use lib.Dec.{eqb, leb, ltb}
-use lib.ListN.{getD}
+use lib.ListN.{length, getD}
 use Rattle.moore.specs.Objects.{choose}
 use Rattle.scope.specs.declared.Instruction.{Instruction}
-use Rattle.scope.specs.Image.{word, programs, instructions, firstInstruction, instructionCount, locals, constantAt, kindOf, conditionsOf}
+use Rattle.scope.specs.Image.{word, programs, instructions, firstInstruction, instructionCount, locals, constants, constantAt, kindOf, conditionsOf}
 use Rattle.scope.specs.Cells.{cellFrom, objectp}
 use Rattle.scope.specs.Checks.{Test, test, firstFailing, tab, concat, sum, boundsOf, casesOk, ends}
 use Rattle.scope.specs.Checks.{ranges, sections, programTests, areaTests, cellTests, codeTests}
@@ -84,6 +84,18 @@ boundBy n q kind =
 -- constant from + k is a PC of program p
 unfoldable pub caseAt : List ℕ → ℕ → ℕ → ℕ → Bool
 caseAt b p from k = eqb (constantAt b (from + k) .tag) 6 && eqb (constantAt b (from + k) .name) p
+
+-- r constants from k on are PCs of the program that constant k names, and the one behind them, if there is one, is not
+pub record RunAt (b : List ℕ) (k r : ℕ) : Type 0 where
+  pub within : k + r ≤ constants b
+  pub alike : (j : ℕ) → j < r → caseAt b (constantAt b k .name) k j ≡ true
+  pub ends : constantAt b k .tag ≡ 6 → k + r < constants b → caseAt b (constantAt b k .name) k r ≡ false
+
+-- the runs of the constants from `low` on
+pub record RunsFrom (b runs : List ℕ) (low : ℕ) : Type 0 where
+  pub few : constants b ≤ 1024
+  pub long : constants b ≤ length runs
+  pub right : (k : ℕ) → low ≤ k → k < constants b → RunAt b k (getD runs k 0)
 
 -- place o of program q, by its instruction and the kind of its code
 unfoldable pub kindOk : List ℕ → Counts → Own → ℕ → Instruction → ℕ → Bool

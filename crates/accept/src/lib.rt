@@ -7,9 +7,9 @@ ghost use lib.ListN.{length};
 ghost use Rattle.moore.specs.Objects.{choose};
 ghost use Rattle.scope.specs.Image.{word, programs, areas, constants, instructionCount, areaLength};
 ghost use Rattle.scope.specs.Checks.{firstFailing, sum, ranges, sections, programOk, programTests, areaOk, areaTests};
-ghost use Rattle.scope.specs.Checks.{everyCase, casesOk, ends, codeTests, cellTests, imageSays};
+ghost use Rattle.scope.specs.Checks.{casesOk, ends, codeTests, cellTests, imageSays};
 ghost use Rattle.image.specs.Laid.{Laid, Counted};
-ghost use Rattle.accept.specs.Facts.{Ranged, Joined, fieldsOk, cellsFrom, ownOf, Owns, boundBy, kindOk, partsOk};
+ghost use Rattle.accept.specs.Facts.{Ranged, Joined, fieldsOk, cellsFrom, ownOf, Owns, boundBy, kindOk, partsOk, RunAt, RunsFrom};
 ghost use Rattle.accept.specs.Facts.{Placed, allCodes, afterAreas, afterPrograms, afterSections, afterRanges, afterLength};
 use image::Counts;
 use image::Offsets;
@@ -366,25 +366,39 @@ fn is_case(c: Cell, p: usize) -> bool
     }
 }
 
-fn every_case(image: &[u8], at: Offsets, p: usize, from: usize, many: usize) -> bool
-    requires { ⌜ Laid (now image) at × (from + many ≤ constants (now image)) ⌝ }
-    ensures { λ r. ⌜ r ≡ everyCase (now (image .entry)) p from many ⌝ }
+// How many constants from k on are PCs of one program, where that is known of the next.
+fn run_at(image: &[u8], at: Offsets, n: Counts, runs: &[u16], k: usize) -> u16
+    requires { ⌜ Laid (now image) at × Counted (now image) n × RunsFrom (now image) (now runs) (k + 1) × (k < constants (now image)) ⌝ }
+    ensures { λ r. ⌜ RunAt (now (image .entry)) k r ⌝ }
 {
-    let mut k: usize = 0;
-    while k < many {
-        let c = image::constant(image, at, from + k);
-        let good = is_case(c, p);
-        if good {
-            k = k + 1;
-        } else {
-            return false;
-        }
+    let c = image::constant(image, at, k);
+    let p = c.name as usize;
+    if c.tag == 6 {} else {
+        return 0;
     }
-    true
+    let next = k + 1;
+    if next < n.constants {} else {
+        return 1;
+    }
+    let d = image::constant(image, at, next);
+    if is_case(d, p) { runs[next] + 1 } else { 1 }
 }
 
-fn cases_ok(image: &[u8], at: Offsets, n: Counts, p: usize, i: Instruction) -> bool
-    requires { ⌜ Laid (now image) at × Counted (now image) n ⌝ }
+// The runs of all constants, from the last down, so that each JUMP-CASE is checked by one comparison.
+fn fill_runs(image: &[u8], at: Offsets, n: Counts, runs: &mut [u16])
+    requires { ⌜ Laid (now image) at × Counted (now image) n × (constants (now image) ≤ 1024) × (constants (now image) ≤ length (now runs)) ⌝ }
+    ensures { λ _. ⌜ RunsFrom (now (image .entry)) (now (runs .exit)) 0 ⌝ }
+{
+    let mut k = n.constants;
+    while 0 < k {
+        k = k - 1;
+        let r = run_at(image, at, n, runs, k);
+        runs[k] = r;
+    }
+}
+
+fn cases_ok(image: &[u8], at: Offsets, n: Counts, runs: &[u16], p: usize, i: Instruction) -> bool
+    requires { ⌜ Laid (now image) at × Counted (now image) n × RunsFrom (now image) (now runs) 0 ⌝ }
     ensures { λ r. ⌜ r ≡ casesOk (now (image .entry)) p i ⌝ }
 {
     let from = i.a as usize;
@@ -392,20 +406,32 @@ fn cases_ok(image: &[u8], at: Offsets, n: Counts, p: usize, i: Instruction) -> b
     if 1 <= many {} else {
         return false;
     }
-    if from + many <= n.constants {
-        every_case(image, at, p, from, many)
+    if from + many <= n.constants {} else {
+        return false;
+    }
+    let c = image::constant(image, at, from);
+    if is_case(c, p) {
+        i.b <= runs[from]
     } else {
         false
     }
 }
 
 // Operand b.
-fn second_ok(image: &[u8], at: Offsets, n: Counts, p: usize, kind: u8, i: Instruction) -> bool
-    requires { ⌜ Laid (now image) at × Counted (now image) n ⌝ }
+fn second_ok(
+    image: &[u8],
+    at: Offsets,
+    n: Counts,
+    runs: &[u16],
+    p: usize,
+    kind: u8,
+    i: Instruction,
+) -> bool
+    requires { ⌜ Laid (now image) at × Counted (now image) n × RunsFrom (now image) (now runs) 0 ⌝ }
     ensures { λ r. ⌜ r ≡ choose (eqb kind 8) (casesOk (now (image .entry)) p i) (eqb (i .b) 0) ⌝ }
 {
     if kind == 8 {
-        cases_ok(image, at, n, p, i)
+        cases_ok(image, at, n, runs, p, i)
     } else {
         i.b == 0
     }
@@ -431,8 +457,17 @@ fn last_ok(o: usize, count: usize, code: u8) -> bool
 }
 
 // Place o of program q, by its instruction and the kind of its code.
-fn kind_ok(image: &[u8], at: Offsets, n: Counts, q: Own, o: usize, i: Instruction, kind: u8) -> bool
-    requires { ⌜ Laid (now image) at × Counted (now image) n × (o < 65536) ⌝ }
+fn kind_ok(
+    image: &[u8],
+    at: Offsets,
+    n: Counts,
+    runs: &[u16],
+    q: Own,
+    o: usize,
+    i: Instruction,
+    kind: u8,
+) -> bool
+    requires { ⌜ Laid (now image) at × Counted (now image) n × RunsFrom (now image) (now runs) 0 × (o < 65536) ⌝ }
     ensures { λ r. ⌜ r ≡ kindOk (now (image .entry)) n q o i kind ⌝ }
 {
     let conditions = kinds::conditions(kind);
@@ -443,7 +478,7 @@ fn kind_ok(image: &[u8], at: Offsets, n: Counts, q: Own, o: usize, i: Instructio
     if (i.a as usize) < bound {} else {
         return false;
     }
-    if second_ok(image, at, n, q.program, kind, i) {} else {
+    if second_ok(image, at, n, runs, q.program, kind, i) {} else {
         return false;
     }
     if i.zero == 0 {
@@ -453,22 +488,30 @@ fn kind_ok(image: &[u8], at: Offsets, n: Counts, q: Own, o: usize, i: Instructio
     }
 }
 
-fn parts_ok(image: &[u8], at: Offsets, n: Counts, q: Own, o: usize, i: Instruction) -> bool
-    requires { ⌜ Laid (now image) at × Counted (now image) n × (o < 65536) ⌝ }
+fn parts_ok(
+    image: &[u8],
+    at: Offsets,
+    n: Counts,
+    runs: &[u16],
+    q: Own,
+    o: usize,
+    i: Instruction,
+) -> bool
+    requires { ⌜ Laid (now image) at × Counted (now image) n × RunsFrom (now image) (now runs) 0 × (o < 65536) ⌝ }
     ensures { λ r. ⌜ r ≡ partsOk (now (image .entry)) n q o i ⌝ }
 {
     let kind = kinds::kind(i.code);
-    kind_ok(image, at, n, q, o, i, kind)
+    kind_ok(image, at, n, runs, q, o, i, kind)
 }
 
-fn check_code(image: &[u8], at: Offsets, n: Counts, q: Own) -> Checked
-    requires { ⌜ Laid (now image) at × Counted (now image) n × Owns (now image) q ⌝ }
+fn check_code(image: &[u8], at: Offsets, n: Counts, runs: &[u16], q: Own) -> Checked
+    requires { ⌜ Laid (now image) at × Counted (now image) n × RunsFrom (now image) (now runs) 0 × Owns (now image) q ⌝ }
     ensures { λ r. ⌜ r ≡ firstFailing (codeTests (now (image .entry)) (q .program)) ⌝ }
 {
     let mut o: usize = 0;
     while o < q.count {
         let i = image::instruction(image, at, q.first + o);
-        let good = parts_ok(image, at, n, q, o, i);
+        let good = parts_ok(image, at, n, runs, q, o, i);
         if good {
             o = o + 1;
         } else {
@@ -481,21 +524,21 @@ fn check_code(image: &[u8], at: Offsets, n: Counts, q: Own) -> Checked
     Checked::Fine
 }
 
-fn check_program(image: &[u8], at: Offsets, n: Counts, p: usize) -> Checked
-    requires { ⌜ Laid (now image) at × Counted (now image) n × Placed (now image) × (p < programs (now image)) ⌝ }
+fn check_program(image: &[u8], at: Offsets, n: Counts, runs: &[u16], p: usize) -> Checked
+    requires { ⌜ Laid (now image) at × Counted (now image) n × RunsFrom (now image) (now runs) 0 × Placed (now image) × (p < programs (now image)) ⌝ }
     ensures { λ r. ⌜ r ≡ firstFailing (codeTests (now (image .entry)) p) ⌝ }
 {
     let q = read_own(image, at, p);
-    check_code(image, at, n, q)
+    check_code(image, at, n, runs, q)
 }
 
-fn check_codes(image: &[u8], at: Offsets, n: Counts) -> Checked
-    requires { ⌜ Laid (now image) at × Counted (now image) n × Placed (now image) ⌝ }
+fn check_codes(image: &[u8], at: Offsets, n: Counts, runs: &[u16]) -> Checked
+    requires { ⌜ Laid (now image) at × Counted (now image) n × RunsFrom (now image) (now runs) 0 × Placed (now image) ⌝ }
     ensures { λ r. ⌜ r ≡ firstFailing (allCodes (now (image .entry))) ⌝ }
 {
     let mut p: usize = 0;
     while p < n.programs {
-        let one = check_program(image, at, n, p);
+        let one = check_program(image, at, n, runs, p);
         match one {
             Checked::Fine => {
                 p = p + 1;
@@ -521,13 +564,22 @@ fn check_data(image: &[u8], at: Offsets, n: Counts) -> Checked
     }
 }
 
+fn check_all_codes(image: &[u8], at: Offsets, n: Counts) -> Checked
+    requires { ⌜ Laid (now image) at × Counted (now image) n × Ranged (now image) × Placed (now image) ⌝ }
+    ensures { λ r. ⌜ r ≡ firstFailing (allCodes (now (image .entry))) ⌝ }
+{
+    let mut runs = [0u16; 1024];
+    fill_runs(image, at, n, &mut runs);
+    check_codes(image, at, n, &runs)
+}
+
 fn after_areas(image: &[u8], at: Offsets, n: Counts) -> Checked
     requires { ⌜ Laid (now image) at × Counted (now image) n × Ranged (now image) × Placed (now image) ⌝ }
     ensures { λ r. ⌜ r ≡ firstFailing (afterAreas (now (image .entry))) ⌝ }
 {
     let first = check_data(image, at, n);
     match first {
-        Checked::Fine => check_codes(image, at, n),
+        Checked::Fine => check_all_codes(image, at, n),
         Checked::Refused { answer, place } => Checked::Refused { answer, place },
     }
 }

@@ -5,7 +5,7 @@ use Rattle.accept.proofs.after_areas.Statement.{statement}
 use Rattle.accept.proofs.after_areas.Tie as tie
 use Rattle.accept.proofs.after_areas.Reads as reads
 use Rattle.accept.proofs.after_areas.Lts as lts
-use Rattle.accept.proofs.check_codes.Reads as check-codes-reads
+use Rattle.accept.proofs.check_all_codes.Reads as check-all-codes-reads
 use Rattle.accept.proofs.check_data.Reads as check-data-reads
 
 check-data-requires : tie.Need-check-data-requires
@@ -14,8 +14,8 @@ check-data-requires c κs = search needs
 enum-told : tie.Need-enum-told
 enum-told c = search needs
 
-check-codes-requires : tie.Need-check-codes-requires
-check-codes-requires c κs = search needs
+check-all-codes-requires : tie.Need-check-all-codes-requires
+check-all-codes-requires c κs = search needs
 
 enum-known-first : tie.Need-enum-known-first
 enum-known-first c = search needs
@@ -34,7 +34,7 @@ after-areas-spec =
     (tie.spec
     check-data-requires
     enum-told
-    check-codes-requires
+    check-all-codes-requires
     enum-known-first
     returns
     returns-2)

@@ -1,4 +1,4 @@
-use Rattle.accept.proofs.Codes.{by-constants, past-constants}
+use Rattle.accept.proofs.Codes.{by-constants, past-constants, run-short, run-long}
 use Rattle.scope.specs.Checks.{casesOk}
 use Rattle.scope.proofs.Bools.{clauses}
 use borrow.Author.Needs.{needs}
@@ -6,7 +6,8 @@ use Rattle.accept.proofs.cases_ok.Statement.{statement}
 use Rattle.accept.proofs.cases_ok.Tie as tie
 use Rattle.accept.proofs.cases_ok.Reads as reads
 use Rattle.accept.proofs.cases_ok.Lts as lts
-use Rattle.accept.proofs.every_case.Reads as every-case-reads
+use Rattle.accept.proofs.is_case.Reads as is-case-reads
+use Rattle.image.proofs.constant.Reads as constant-reads
 
 cast-from : tie.Need-cast-from
 cast-from c = search needs
@@ -16,23 +17,47 @@ cast-many c = search needs
 
 returns : tie.Need-returns
 unfolding casesOk
-returns c = search (clauses, by-constants, past-constants)
+returns c = search (clauses, by-constants, past-constants, run-short, run-long) depth 8
 
 add-if2 : tie.Need-add-if2
 add-if2 c = search needs
 
-every-case-requires : tie.Need-every-case-requires
-every-case-requires c κs = search needs
-
 returns-2 : tie.Need-returns-2
 unfolding casesOk
-returns-2 c = search (clauses, by-constants, past-constants)
+returns-2 c = search (clauses, by-constants, past-constants, run-short, run-long) depth 8
+
+constant-requires : tie.Need-constant-requires
+constant-requires c κs = search needs
+
+is-case-requires : tie.Need-is-case-requires
+is-case-requires c κs = search needs
+
+mul-result : tie.Need-mul-result
+mul-result c = search needs
+
+shared-slice-read-result : tie.Need-shared-slice-read-result
+shared-slice-read-result c = search needs
 
 returns-3 : tie.Need-returns-3
 unfolding casesOk
-returns-3 c = search (clauses, by-constants, past-constants)
+returns-3 c = search (clauses, by-constants, past-constants, run-short, run-long) depth 8
+
+returns-4 : tie.Need-returns-4
+unfolding casesOk
+returns-4 c = search (clauses, by-constants, past-constants, run-short, run-long) depth 8
 
 pub cases-ok-spec : {M : Type 1} → statement M
 cases-ok-spec =
     tie.close
-    (tie.spec cast-from cast-many returns add-if2 every-case-requires returns-2 returns-3)
+    (tie.spec
+    cast-from
+    cast-many
+    returns
+    add-if2
+    returns-2
+    constant-requires
+    is-case-requires
+    mul-result
+    shared-slice-read-result
+    returns-3
+    returns-4)

@@ -1,7 +1,7 @@
 use Prim.Native.Nat.{_-_}
 use Rattle.scope.specs.Checks.{instructionOk}
 use Rattle.accept.specs.Facts.{Passing}
-use Rattle.accept.proofs.Codes.{code-walks}
+use Rattle.accept.proofs.Codes.{code-walks, place-small}
 use borrow.Author.Needs.{needs}
 use Rattle.accept.proofs.check_code.Statement.{statement}
 use Rattle.accept.proofs.check_code.Tie as tie
@@ -11,10 +11,10 @@ use Rattle.accept.proofs.parts_ok.Reads as parts-ok-reads
 use Rattle.image.proofs.instruction.Reads as instruction-reads
 
 abbrev Inv-loop : tie.InvT-loop
-Inv-loop image at n q o₀ o = Passing (instructionOk image (q .program)) (q .count) o
+Inv-loop image at n runs q o₀ o = Passing (instructionOk image (q .program)) (q .count) o
 
 abbrev μ-loop : tie.MeasureT-loop
-μ-loop image at n q o₀ o = q .count - o
+μ-loop image at n runs q o₀ o = q .count - o
 
 loop-holds : tie.Need-loop-holds Inv-loop μ-loop
 loop-holds c = search code-walks
@@ -26,7 +26,7 @@ instruction-requires : tie.Need-instruction-requires Inv-loop μ-loop
 instruction-requires c κs = search needs
 
 parts-ok-requires : tie.Need-parts-ok-requires Inv-loop μ-loop
-parts-ok-requires c κs = search needs
+parts-ok-requires c κs = search (place-small, needs)
 
 add-o : tie.Need-add-o Inv-loop μ-loop
 add-o c = search needs
@@ -37,11 +37,11 @@ loop-less c = search needs
 loop-again : tie.Need-loop-again Inv-loop μ-loop
 loop-again c = search code-walks
 
-add-t10 : tie.Need-add-t10 Inv-loop μ-loop
-add-t10 c = search needs
+add-t11 : tie.Need-add-t11 Inv-loop μ-loop
+add-t11 c = search needs
 
-cast-t11 : tie.Need-cast-t11 Inv-loop μ-loop
-cast-t11 c = search needs
+cast-t12 : tie.Need-cast-t12 Inv-loop μ-loop
+cast-t12 c = search needs
 
 returns : tie.Need-returns Inv-loop μ-loop
 returns c = search code-walks
@@ -62,7 +62,7 @@ check-code-spec =
     add-o
     loop-less
     loop-again
-    add-t10
-    cast-t11
+    add-t11
+    cast-t12
     returns
     returns-2)

@@ -9,10 +9,10 @@ use Rattle.accept.proofs.check_codes.Lts as lts
 use Rattle.accept.proofs.check_program.Reads as check-program-reads
 
 abbrev Inv-loop : tie.InvT-loop
-Inv-loop image at n p₀ p = Through image (n .programs) p
+Inv-loop image at n runs p₀ p = Through image (n .programs) p
 
 abbrev μ-loop : tie.MeasureT-loop
-μ-loop image at n p₀ p = n .programs - p
+μ-loop image at n runs p₀ p = n .programs - p
 
 loop-holds : tie.Need-loop-holds Inv-loop μ-loop
 loop-holds c = search codes

@@ -16,7 +16,7 @@ use Rattle.scope.specs.declared.Checked.{Checked}
 use Rattle.scope.specs.declared.Checked.the-variants.{Fine, Refused}
 use Rattle.scope.specs.Image.{constants, constantAt, instructionAt, firstInstruction, instructionCount, operandBound, kindOf}
 use Rattle.scope.specs.Checks.{Test, test, tab, concat, firstFailing, everyCase, casesOk, ends, instructionOk, codeTests}
-use Rattle.scope.proofs.Bools.{clash, and-both, and-le, and-gt}
+use Rattle.scope.proofs.Bools.{clash, and-both, and-le, and-gt, clauses}
 use Rattle.image.specs.declared.Counts.{Counts}
 use Rattle.image.specs.Laid.{Counted}
 use Rattle.accept.specs.declared.Own.{Own}
@@ -260,6 +260,8 @@ runs-down b runs n k r v z l m a = runs-next b runs (k - 1) r (runs-here b runs 
 
 pub runs-end : (b runs : List ℕ) (k : ℕ) → RunsFrom b runs k → k ≤ 0 → RunsFrom b runs 0
 runs-end b runs k z l = let e : k ≡ 0 = omega arith in rw e at z
+
+pub ruleset jump-cases = (clauses, by-constants, past-constants, run-short, run-long)
 
 pub place-small : (b : List ℕ) (q : Own) (o : ℕ) → Owns b q → o < q .count → o < 65536
 place-small b q o w l = omega (arith, w .lie, w .few)

@@ -36,11 +36,11 @@ pub record Joined (b : List ℕ) : Type 0 where
 
 -- a program record by its six fields: program p of an image with k constants, where the earlier counts add to `earlier`
 unfoldable pub fieldsOk : ℕ → ℕ → ℕ → ℕ → ℕ → ℕ → ℕ → ℕ → ℕ → Bool
-fieldsOk p earlier k first count formals temps firstTemp zero =
+fieldsOk p earlier k first count formals temps start last =
     eqb first earlier
     && (leb 1 count
     && (leb (formals + temps) 256
-    && (choose (eqb temps 0) (eqb firstTemp 0) (leb (firstTemp + temps) k) && (choose (eqb p 0) (eqb formals 0) true && eqb zero 0))))
+    && (choose (eqb temps 0) (eqb start 0) (leb (start + temps) k) && (choose (eqb p 0) (eqb formals 0) true && eqb last 0))))
 
 -- a loop over n records at record p: every record before it passed `ok`, and the counts f before it add to `earlier`
 pub record Walk (ok : ℕ → Bool) (f : ℕ → ℕ) (n p earlier : ℕ) : Type 0 where

@@ -1,1 +1,6 @@
 pub mod Table
+pub mod Lists
+pub mod Steps
+pub mod Areas
+pub mod Objects
+pub mod Proper

@@ -1,6 +1,5 @@
-use Rattle.accept.proofs.Codes.{by-constants, past-constants, run-short, run-long}
+use Rattle.accept.proofs.Codes.{jump-cases}
 use Rattle.scope.specs.Checks.{casesOk}
-use Rattle.scope.proofs.Bools.{clauses}
 use borrow.Author.Needs.{needs}
 use Rattle.accept.proofs.cases_ok.Statement.{statement}
 use Rattle.accept.proofs.cases_ok.Tie as tie
@@ -17,14 +16,14 @@ cast-many c = search needs
 
 returns : tie.Need-returns
 unfolding casesOk
-returns c = search (clauses, by-constants, past-constants, run-short, run-long) depth 8
+returns c = search jump-cases depth 8
 
 add-if2 : tie.Need-add-if2
 add-if2 c = search needs
 
 returns-2 : tie.Need-returns-2
 unfolding casesOk
-returns-2 c = search (clauses, by-constants, past-constants, run-short, run-long) depth 8
+returns-2 c = search jump-cases depth 8
 
 constant-requires : tie.Need-constant-requires
 constant-requires c κs = search needs
@@ -40,11 +39,11 @@ shared-slice-read-result c = search needs
 
 returns-3 : tie.Need-returns-3
 unfolding casesOk
-returns-3 c = search (clauses, by-constants, past-constants, run-short, run-long) depth 8
+returns-3 c = search jump-cases depth 8
 
 returns-4 : tie.Need-returns-4
 unfolding casesOk
-returns-4 c = search (clauses, by-constants, past-constants, run-short, run-long) depth 8
+returns-4 c = search jump-cases depth 8
 
 pub cases-ok-spec : {M : Type 1} → statement M
 cases-ok-spec =

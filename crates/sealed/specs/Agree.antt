@@ -1,0 +1,78 @@
+-- What demand 3 says of two p-states and a set of areas A, which in its theorems is what is in reach from the first.
+use mathlib.Core.Path.{_≡_}
+use mathlib.Core.List.{List, List·Memᴰ}
+use mathlib.Core.Logic.{_↔_}
+use Prim.Native.Nat.{ℕ, _<_}
+use lib.ListN.{length, getD}
+use Rattle.moore.specs.Objects.{Obj, addr}
+use Rattle.moore.specs.Machine.{push-constant, Text, Frame, State, program, insAt, area}
+use Rattle.scope.specs.Reach.{Report}
+
+-- equal in the areas of A
+pub record Alike (A : ℕ → Type 0) (d e : List (List Obj)) : Type 0 where
+  pub many : length d ≡ length e
+  pub cells : (a : ℕ) → A a → area d a ≡ area e a
+
+-- equal but for cells in areas outside A
+pub record Agree (A : ℕ → Type 0) (s t : State) : Type 0 where
+  pub prog : s .prog ≡ t .prog
+  pub off : s .off ≡ t .off
+  pub ctrl : s .ctrl ≡ t .ctrl
+  pub temp : s .temp ≡ t .temp
+  pub areas : Alike A (s .areas) (t .areas)
+  pub psw : s .psw ≡ t .psw
+
+-- the same used stack cells, and the same cells in the areas of A
+pub record SameCells (A : ℕ → Type 0) (s t : State) : Type 0 where
+  pub ctrl : s .ctrl ≡ t .ctrl
+  pub temp : s .temp ≡ t .temp
+  pub areas : Alike A (s .areas) (t .areas)
+
+-- from s to x the areas outside A stay as they are
+abbrev pub Kept : (ℕ → Type 0) → State → State → Type 0
+Kept A s x = (a : ℕ) → (A a → ⊥) → area (x .areas) a ≡ area (s .areas) a
+
+-- every ADDR in a used stack cell, or in an area of A, is into an area of A
+pub record Within (A : ℕ → Type 0) (s : State) : Type 0 where
+  pub temporary : (a o : ℕ) → List·Memᴰ (addr a o) (s .temp) → A a
+  pub control : (f : Frame) (a o : ℕ) → List·Memᴰ f (s .ctrl) → List·Memᴰ (addr a o) (f .locals) → A a
+  pub cells : (b a o : ℕ) → A b → List·Memᴰ (addr a o) (area (s .areas) b) → A a
+
+-- the objects that programs push or take as initial temps are among the text's constants
+pub record Drawn (m : Text) : Type 0 where
+  pub pushed : (p o : ℕ) (c : Obj) → insAt m p o ≡ push-constant c → List·Memᴰ c (m .consts)
+  pub taken : (p : ℕ) (c : Obj) → List·Memᴰ c (program m p .temps) → List·Memᴰ c (m .consts)
+
+-- s runs to x and t to y, and R is a notion of reach: both end equal but for cells in areas that were out of reach, with one reach, which
+-- has not grown; and the areas that were out of reach are as they began
+pub record Sealed (R : State → ℕ → Type 0) (s t x y : State) : Type 0 where
+  pub agree : Agree (R s) x y
+  pub reach : (a : ℕ) → R x a ↔ R y a
+  pub falls : (a : ℕ) → R x a → R s a
+  pub first : Kept (R s) s x
+  pub second : Kept (R s) t y
+
+-- ---- in the words of a report r: one byte for each area, 1 in reach and 0 not
+
+-- equal but for cells in areas that r writes 0 for
+pub record EqualBut (r : List ℕ) (s t : State) : Type 0 where
+  pub prog : s .prog ≡ t .prog
+  pub off : s .off ≡ t .off
+  pub ctrl : s .ctrl ≡ t .ctrl
+  pub temp : s .temp ≡ t .temp
+  pub many : length (s .areas) ≡ length (t .areas)
+  pub cells : (a : ℕ) → getD r a 0 ≡ 1 → area (s .areas) a ≡ area (t .areas) a
+  pub psw : s .psw ≡ t .psw
+
+-- from s to x the areas that r writes 0 for stay as they are
+abbrev pub Untouched : List ℕ → State → State → Type 0
+Untouched r s x = (a : ℕ) → a < length r → getD r a 0 ≡ 0 → area (x .areas) a ≡ area (s .areas) a
+
+-- s runs to x and t to y, and r reports what was in reach from s: both end equal but for cells in areas that r writes 0 for, with the same
+-- reports, none of which has a 1 where r has 0; and the areas that r writes 0 for are as they began
+pub record SealedBy (m : Text) (r : List ℕ) (s t x y : State) : Type 0 where
+  pub equal : EqualBut r x y
+  pub reports : (q : List ℕ) → Report m x q → Report m y q
+  pub falls : (q : List ℕ) → Report m x q → (a : ℕ) → a < length r → getD r a 0 ≡ 0 → getD q a 0 ≡ 0
+  pub first : Untouched r s x
+  pub second : Untouched r t y

@@ -1,0 +1,3 @@
+-- What demand 3 says, and the closed sets it is proved by.
+pub mod Agree
+pub mod Closed

@@ -17,58 +17,14 @@ use Rattle.scope.specs.Cells.{objectp}
 use Rattle.scope.specs.Checks.{Test, test, firstFailing, tab, concat, sum, ranges, sections, programOk, programTests, boundsOf, cellTests, codeTests}
 use Rattle.scope.specs.Checks.{allInstructions, lengthOk, imageTests, imageSays}
 use Rattle.scope.specs.Calls.{andThen}
-use Rattle.scope.proofs.Bools.{clash, and-both}
+use Rattle.scope.proofs.Bools.{and-both}
+use Rattle.scope.proofs.Tests.{head-fine, append-fine, tab-fine, concat-over, concat-stop}
 use Rattle.image.specs.declared.Counts.{Counts}
 use Rattle.image.specs.declared.Offsets.{Offsets}
 use Rattle.image.specs.Laid.{Laid, Counted, countsOf, offsetsOf}
 use Rattle.accept.specs.declared.Own.{Own}
 use Rattle.accept.specs.Facts.{Ranged, Joined, Placed, Through, Owns, ownOf, allCodes, cellOk, cellsFrom}
 use Rattle.accept.specs.Facts.{afterAreas, afterPrograms, afterSections, afterRanges, afterLength}
-
--- ---- one list of tests and then another
-
-push : (v : Bool) (x z : Checked) (n p : ℕ) → choose v (andThen x z) (Refused n p) ≡ andThen (choose v x (Refused n p)) z
-unfolding choose andThen
-push true x z n p = refl
-push false x z n p = refl
-
-pub append-says : (ts us : List Test) → firstFailing (ts ++ us) ≡ andThen (firstFailing ts) (firstFailing us)
-unfolding firstFailing andThen
-append-says [] us = refl
-append-says (t ∷ ts) us =
-    ap (λ (r : Checked). choose (t .holds) r (Refused (t .number) (t .place))) (append-says ts us)
-    ∙ push (t .holds) (firstFailing ts) (firstFailing us) (t .number) (t .place)
-
-pub then-fine : (ts us : List Test) (x r : Checked) → x ≡ firstFailing ts → x ≡ Fine → r ≡ firstFailing us → r ≡ firstFailing (ts ++ us)
-unfolding andThen
-then-fine ts us x r e f k = let q : firstFailing ts ≡ Fine = cc in k ∙ sym (append-says ts us ∙ rw q)
-
-pub then-refused : (ts us : List Test) (x : Checked) (n p : ℕ) → x ≡ firstFailing ts → x ≡ Refused n p → Refused n p ≡ firstFailing (ts ++ us)
-unfolding andThen
-then-refused ts us x n p e f = let q : firstFailing ts ≡ Refused n p = cc in sym (append-says ts us ∙ rw q)
-
-pub ruleset chain = (then-fine, then-refused)
-
--- ---- what a check that passed says
-
-pub head-fine : (h : Bool) (n p : ℕ) (ts : List Test) → firstFailing (test n p h ∷ ts) ≡ Fine → (h ≡ true) × (firstFailing ts ≡ Fine)
-unfolding firstFailing choose
-head-fine true n p ts e = (refl, e)
-head-fine false n p ts e = let z : _≡_ {A = ℕ} 0 1 = cc in absurd (omega arith)
-
-both-fine : (x y : Checked) → andThen x y ≡ Fine → (x ≡ Fine) × (y ≡ Fine)
-unfolding andThen
-both-fine Fine y e = (refl, e)
-both-fine (Refused n p) y e = let z : _≡_ {A = ℕ} 0 1 = cc in absurd (omega arith)
-
-pub append-fine : (ts us : List Test) → firstFailing (ts ++ us) ≡ Fine → (firstFailing ts ≡ Fine) × (firstFailing us ≡ Fine)
-append-fine ts us e = both-fine (firstFailing ts) (firstFailing us) (sym (append-says ts us) ∙ e)
-
-pub tab-fine : (f : ℕ → Test) (n : ℕ) → firstFailing (tab f n) ≡ Fine → (k : ℕ) → k < n → f k .holds ≡ true
-tab-fine f zero e k l = absurd (omega arith)
-tab-fine f (suc n) e zero l = head-fine (f 0 .holds) (f 0 .number) (f 0 .place) _ e .0
-tab-fine f (suc n) e (suc k) l =
-    tab-fine (λ i. f (suc i)) n (head-fine (f 0 .holds) (f 0 .number) (f 0 .place) _ e .1) k (omega arith)
 
 -- ---- 12
 
@@ -199,21 +155,6 @@ owned b q p e w l =
 
 pub of-own : (b : List ℕ) (q : Own) (p : ℕ) (r : Checked) → q ≡ ownOf b p → r ≡ firstFailing (codeTests b (q .program)) → r ≡ firstFailing (codeTests b p)
 of-own b q p r e h = h ∙ ap (λ (o : Own). firstFailing (codeTests b (o .program))) e
-
-pub concat-over : (f : ℕ → List Test) (n : ℕ) → ((k : ℕ) → k < n → firstFailing (f k) ≡ Fine) → firstFailing (concat (tab f n)) ≡ Fine
-unfolding firstFailing
-concat-over f zero h = refl
-concat-over f (suc n) h =
-    sym (then-fine (f 0) (concat (tab (λ i. f (suc i)) n)) (firstFailing (f 0)) Fine refl (h 0 (omega arith))
-    (sym (concat-over (λ i. f (suc i)) n (λ k l. h (suc k) (omega arith)))))
-
-concat-stop : (f : ℕ → List Test) (n i a q : ℕ) → i < n → ((k : ℕ) → k < i → firstFailing (f k) ≡ Fine) → firstFailing (f i) ≡ Refused a q
-    → firstFailing (concat (tab f n)) ≡ Refused a q
-concat-stop f zero i a q l h e = absurd (omega arith)
-concat-stop f (suc n) zero a q l h e = sym (then-refused (f 0) (concat (tab (λ i. f (suc i)) n)) (firstFailing (f 0)) a q refl e)
-concat-stop f (suc n) (suc i) a q l h e =
-    sym (then-fine (f 0) (concat (tab (λ i. f (suc i)) n)) (firstFailing (f 0)) (Refused a q) refl (h 0 (omega arith))
-    (sym (concat-stop (λ k. f (suc k)) n i a q (omega arith) (λ k m. h (suc k) (omega arith)) e)))
 
 pub through-start : (b : List ℕ) (n : ℕ) → Through b n 0
 through-start b n = record { within = omega arith; fine = λ k l. absurd (omega arith) }

@@ -16,12 +16,12 @@ use Rattle.scope.specs.Image.{word, programs, areas, constants, dataCells, cons
 use Rattle.scope.specs.Cells.{objectp}
 use Rattle.scope.specs.Checks.{Test, test, firstFailing, tab, concat, ranges, sections, programOk, programTests, areaOk, areaTests, boundsOf}
 use Rattle.scope.specs.Checks.{cellTests, codeTests, instructionOk, lengthOk, allInstructions, allCells, imageTests, imageSays, WellFormed}
-use Rattle.accept.proofs.Chain.{head-fine, append-fine, tab-fine, then-fine, concat-over, ranged, joined, laid, counted}
+use Rattle.scope.proofs.Tests.{head-fine, append-fine, tab-fine, tab-over, then-fine, concat-over, concat-fine}
+use Rattle.accept.proofs.Chain.{ranged, joined, laid, counted}
 use Rattle.scope.proofs.Bools.{and-both}
 use Rattle.image.specs.declared.Counts.{Counts}
 use Rattle.image.specs.declared.Offsets.{Offsets}
 use Rattle.image.specs.Laid.{countsOf, offsetsOf, Accepted}
-use Rattle.accept.proofs.Walks.{tab-over}
 
 -- ---- tests in a row
 
@@ -73,11 +73,6 @@ refused-first (t ∷ ts) n p e = refused-head (t .holds) (t .number) (t .place) 
 pub first-that-fails : (b : List ℕ) (n p : ℕ) → imageSays b ≡ Refused n p → First (imageTests b) n p
 unfolding imageSays
 first-that-fails b n p e = refused-first (imageTests b) n p e
-
-concat-fine : (f : ℕ → List Test) (n : ℕ) → firstFailing (concat (tab f n)) ≡ Fine → (k : ℕ) → k < n → firstFailing (f k) ≡ Fine
-concat-fine f zero e k l = absurd (omega arith)
-concat-fine f (suc n) e zero l = append-fine (f 0) (concat (tab (λ i. f (suc i)) n)) e .0
-concat-fine f (suc n) e (suc k) l = concat-fine (λ i. f (suc i)) n (append-fine (f 0) (concat (tab (λ i. f (suc i)) n)) e .1) k (omega arith)
 
 -- a test for each number below n, and one more
 table-fine : (f : ℕ → Test) (n : ℕ) (h : Bool) (m q : ℕ) → firstFailing (tab f n ++ (test m q h ∷ [])) ≡ Fine

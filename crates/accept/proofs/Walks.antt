@@ -20,25 +20,8 @@ use Rattle.scope.specs.Cells.{cellFrom, objectp}
 use Rattle.scope.specs.Image.{areaField}
 use Rattle.scope.specs.Checks.{boundsOf}
 use Rattle.scope.proofs.Bools.{and-eq, and-ne}
+use Rattle.scope.proofs.Tests.{tab-over, tab-stop}
 use Rattle.accept.specs.Facts.{Walk, Passing, cellOk, cellsFrom}
-
--- ---- tests of a table
-
--- every test below n holds: what is left
-pub tab-over : (f : ℕ → Test) (n : ℕ) (rest : List Test) → ((k : ℕ) → k < n → f k .holds ≡ true)
-    → firstFailing (tab f n ++ rest) ≡ firstFailing rest
-unfolding firstFailing choose
-tab-over f zero rest h = refl
-tab-over f (suc n) rest h = rw (h 0 (omega arith)) (tab-over (λ i. f (suc i)) n rest (λ k l. h (suc k) (omega arith)))
-
--- the first that does not hold
-pub tab-stop : (f : ℕ → Test) (n i : ℕ) (rest : List Test) → i < n → ((k : ℕ) → k < i → f k .holds ≡ true) → f i .holds ≡ false
-    → firstFailing (tab f n ++ rest) ≡ Refused (f i .number) (f i .place)
-unfolding firstFailing choose
-tab-stop f zero i rest l h e = absurd (omega arith)
-tab-stop f (suc n) zero rest l h e = rw e
-tab-stop f (suc n) (suc i) rest l h e =
-    rw (h 0 (omega arith)) (tab-stop (λ k. f (suc k)) n i rest (omega arith) (λ k m. h (suc k) (omega arith)) e)
 
 -- ---- the walk
 

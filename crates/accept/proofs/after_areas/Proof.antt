@@ -1,5 +1,5 @@
+use Rattle.scope.proofs.Tests.{chain}
 use Rattle.accept.specs.Facts.{afterAreas}
-use Rattle.accept.proofs.Chain.{chain}
 use borrow.Author.Needs.{needs}
 use Rattle.accept.proofs.after_areas.Statement.{statement}
 use Rattle.accept.proofs.after_areas.Tie as tie

@@ -1,6 +1,6 @@
-use Rattle.accept.proofs.Chain.{chain, ranged}
+use Rattle.scope.proofs.Tests.{chain}
+use Rattle.accept.proofs.Chain.{ranged}
 use Rattle.accept.specs.Facts.{afterLength}
-use Rattle.accept.proofs.Chain.{chain}
 use borrow.Author.Needs.{needs}
 use Rattle.accept.proofs.after_length.Statement.{statement}
 use Rattle.accept.proofs.after_length.Tie as tie

@@ -1,5 +1,5 @@
+use Rattle.scope.proofs.Tests.{chain}
 use Rattle.accept.specs.Facts.{afterPrograms}
-use Rattle.accept.proofs.Chain.{chain}
 use borrow.Author.Needs.{needs}
 use Rattle.accept.proofs.after_programs.Statement.{statement}
 use Rattle.accept.proofs.after_programs.Tie as tie

@@ -1,6 +1,6 @@
-use Rattle.accept.proofs.Chain.{chain, counted, joined, laid}
+use Rattle.scope.proofs.Tests.{chain}
+use Rattle.accept.proofs.Chain.{counted, joined, laid}
 use Rattle.accept.specs.Facts.{afterRanges}
-use Rattle.accept.proofs.Chain.{chain}
 use borrow.Author.Needs.{needs}
 use Rattle.accept.proofs.after_ranges.Statement.{statement}
 use Rattle.accept.proofs.after_ranges.Tie as tie

@@ -1,6 +1,6 @@
-use Rattle.accept.proofs.Chain.{chain, placed}
+use Rattle.scope.proofs.Tests.{chain}
+use Rattle.accept.proofs.Chain.{placed}
 use Rattle.accept.specs.Facts.{afterSections}
-use Rattle.accept.proofs.Chain.{chain}
 use borrow.Author.Needs.{needs}
 use Rattle.accept.proofs.after_sections.Statement.{statement}
 use Rattle.accept.proofs.after_sections.Tie as tie

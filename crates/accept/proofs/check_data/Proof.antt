@@ -1,4 +1,5 @@
-use Rattle.accept.proofs.Chain.{chain, by-cells}
+use Rattle.scope.proofs.Tests.{chain}
+use Rattle.accept.proofs.Chain.{by-cells}
 use borrow.Author.Needs.{needs}
 use Rattle.accept.proofs.check_data.Statement.{statement}
 use Rattle.accept.proofs.check_data.Tie as tie

@@ -1,5 +1,5 @@
 use Rattle.scope.specs.Checks.{ranges}
-use Rattle.accept.proofs.Tests.{tests}
+use Rattle.scope.proofs.Tests.{tests}
 use borrow.Author.Needs.{needs}
 use Rattle.accept.proofs.check_ranges.Statement.{statement}
 use Rattle.accept.proofs.check_ranges.Tie as tie

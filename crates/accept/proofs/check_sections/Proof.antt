@@ -1,4 +1,5 @@
-use Rattle.accept.proofs.Tests.{tests, by-counts, sectionsBy}
+use Rattle.scope.proofs.Tests.{tests}
+use Rattle.accept.proofs.Fields.{by-counts, sectionsBy}
 use borrow.Author.Needs.{needs}
 use Rattle.accept.proofs.check_sections.Statement.{statement}
 use Rattle.accept.proofs.check_sections.Tie as tie

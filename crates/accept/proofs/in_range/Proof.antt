@@ -1,4 +1,4 @@
-use Rattle.accept.proofs.Tests.{range-tests}
+use Rattle.accept.proofs.Fields.{range-tests}
 use borrow.Author.Needs.{needs}
 use Rattle.accept.proofs.in_range.Statement.{statement}
 use Rattle.accept.proofs.in_range.Tie as tie

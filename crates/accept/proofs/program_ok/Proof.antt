@@ -1,4 +1,4 @@
-use Rattle.accept.proofs.Tests.{by-fields}
+use Rattle.accept.proofs.Fields.{by-fields}
 use borrow.Author.Needs.{needs}
 use Rattle.accept.proofs.program_ok.Statement.{statement}
 use Rattle.accept.proofs.program_ok.Tie as tie

@@ -1,4 +1,4 @@
--- Laws of tests in a row: how a check that goes from test to test comes to the first that fails.
+-- Header words and program records, by the numbers that were read.
 use mathlib.Core.Path.{_≡_, refl, sym, ap, _∙_}
 use mathlib.Core.List.{List, [], _∷_, _++_}
 use mathlib.Core.Bool.{Bool, true, false, _&&_}
@@ -14,21 +14,6 @@ use Rattle.scope.specs.Checks.{Test, test, required, firstFailing, sections, su
 use Rattle.image.specs.declared.Counts.{Counts}
 use Rattle.image.specs.Laid.{Counted}
 use Rattle.accept.specs.Facts.{fieldsOk}
-
--- one test further, by the flag that a call gave for it
-pub pass : (f h : Bool) (n p : ℕ) (ts : List Test) (r : Checked) → f ≡ h → f ≡ true → r ≡ firstFailing ts → r ≡ firstFailing (test n p h ∷ ts)
-unfolding firstFailing choose
-pass f h n p ts r e t k = let q : h ≡ true = cc in rw q k
-
-pub fail : (f h : Bool) (n p : ℕ) (ts : List Test) → f ≡ h → f ≡ false → Refused n p ≡ firstFailing (test n p h ∷ ts)
-unfolding firstFailing choose
-fail f h n p ts e t = let q : h ≡ false = cc in rw q
-
-pub none-left : Fine ≡ firstFailing []
-unfolding firstFailing
-none-left = refl
-
-pub ruleset tests = (pass, fail, none-left)
 
 -- ---- a word w that was read as x, and the range from low to high
 

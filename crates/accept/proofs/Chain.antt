@@ -22,7 +22,7 @@ use Rattle.scope.proofs.Tests.{head-fine, append-fine, tab-fine, concat-over, c
 use Rattle.image.specs.declared.Counts.{Counts}
 use Rattle.image.specs.declared.Offsets.{Offsets}
 use Rattle.image.specs.Laid.{Laid, Counted, countsOf, offsetsOf}
-use Rattle.accept.specs.declared.Own.{Own}
+use Rattle.accept.specs.declared.instructions.Own.{Own}
 use Rattle.accept.specs.Facts.{Ranged, Joined, Placed, Through, Owns, ownOf, allCodes, cellOk, cellsFrom}
 use Rattle.accept.specs.Facts.{afterAreas, afterPrograms, afterSections, afterRanges, afterLength}
 

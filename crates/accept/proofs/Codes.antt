@@ -19,7 +19,7 @@ use Rattle.scope.specs.Checks.{Test, test, tab, concat, firstFailing, everyCase
 use Rattle.scope.proofs.Bools.{clash, and-both, and-le, and-gt, clauses}
 use Rattle.image.specs.declared.Counts.{Counts}
 use Rattle.image.specs.Laid.{Counted}
-use Rattle.accept.specs.declared.Own.{Own}
+use Rattle.accept.specs.declared.instructions.Own.{Own}
 use Rattle.accept.specs.Facts.{Passing, caseAt, RunAt, RunsFrom, Owns, boundBy, kindOk, partsOk}
 use Rattle.accept.proofs.Walks.{passing-start, passing-next, passing-stop, passing-over}
 

@@ -13,7 +13,7 @@ use Rattle.scope.specs.Checks.{Test, test, firstFailing, tab, concat, sum, boun
 use Rattle.scope.specs.Checks.{ranges, sections, programTests, areaTests, cellTests, codeTests}
 use Rattle.scope.specs.declared.Checked.the-variants.{Fine}
 use Rattle.image.specs.declared.Counts.{Counts}
-use Rattle.accept.specs.declared.Own.{Own}
+use Rattle.accept.specs.declared.instructions.Own.{Own}
 
 -- 12 holds
 pub record Ranged (b : List ℕ) : Type 0 where

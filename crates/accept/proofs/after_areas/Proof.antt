@@ -5,8 +5,8 @@ use Rattle.accept.proofs.after_areas.Statement.{statement}
 use Rattle.accept.proofs.after_areas.Tie as tie
 use Rattle.accept.proofs.after_areas.Reads as reads
 use Rattle.accept.proofs.after_areas.Lts as lts
-use Rattle.accept.proofs.check_all_codes.Reads as check-all-codes-reads
-use Rattle.accept.proofs.check_data.Reads as check-data-reads
+use Rattle.accept.proofs.instructions.check_all_codes.Reads as check-all-codes-reads
+use Rattle.accept.proofs.contents.check_data.Reads as check-data-reads
 
 check-data-requires : tie.Need-check-data-requires
 check-data-requires c κs = search needs

@@ -7,7 +7,7 @@ use Rattle.accept.proofs.after_length.Tie as tie
 use Rattle.accept.proofs.after_length.Reads as reads
 use Rattle.accept.proofs.after_length.Lts as lts
 use Rattle.accept.proofs.after_ranges.Reads as after-ranges-reads
-use Rattle.accept.proofs.check_ranges.Reads as check-ranges-reads
+use Rattle.accept.proofs.header.check_ranges.Reads as check-ranges-reads
 
 check-ranges-requires : tie.Need-check-ranges-requires
 check-ranges-requires c κs = search needs

@@ -6,7 +6,7 @@ use Rattle.accept.proofs.after_programs.Tie as tie
 use Rattle.accept.proofs.after_programs.Reads as reads
 use Rattle.accept.proofs.after_programs.Lts as lts
 use Rattle.accept.proofs.after_areas.Reads as after-areas-reads
-use Rattle.accept.proofs.check_areas.Reads as check-areas-reads
+use Rattle.accept.proofs.records.check_areas.Reads as check-areas-reads
 
 check-areas-requires : tie.Need-check-areas-requires
 check-areas-requires c κs = search needs

@@ -7,7 +7,7 @@ use Rattle.accept.proofs.after_ranges.Tie as tie
 use Rattle.accept.proofs.after_ranges.Reads as reads
 use Rattle.accept.proofs.after_ranges.Lts as lts
 use Rattle.accept.proofs.after_sections.Reads as after-sections-reads
-use Rattle.accept.proofs.check_sections.Reads as check-sections-reads
+use Rattle.accept.proofs.header.check_sections.Reads as check-sections-reads
 use Rattle.image.proofs.read_counts.Reads as read-counts-reads
 use Rattle.image.proofs.read_offsets.Reads as read-offsets-reads
 

@@ -7,7 +7,7 @@ use Rattle.accept.proofs.after_sections.Tie as tie
 use Rattle.accept.proofs.after_sections.Reads as reads
 use Rattle.accept.proofs.after_sections.Lts as lts
 use Rattle.accept.proofs.after_programs.Reads as after-programs-reads
-use Rattle.accept.proofs.check_programs.Reads as check-programs-reads
+use Rattle.accept.proofs.records.check_programs.Reads as check-programs-reads
 
 check-programs-requires : tie.Need-check-programs-requires
 check-programs-requires c κs = search needs

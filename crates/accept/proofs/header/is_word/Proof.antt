@@ -1,0 +1,18 @@
+use borrow.Author.Needs.{needs}
+use Rattle.accept.proofs.header.is_word.Statement.{statement}
+use Rattle.accept.proofs.header.is_word.Tie as tie
+use Rattle.accept.proofs.header.is_word.Reads as reads
+use Rattle.accept.proofs.header.is_word.Lts as lts
+use Rattle.image.proofs.header_word.Reads as header-word-reads
+
+header-word-requires : tie.Need-header-word-requires
+header-word-requires c κs = search needs
+
+cast-w : tie.Need-cast-w
+cast-w c = search needs
+
+returns : tie.Need-returns
+returns c = cc
+
+pub is-word-spec : {M : Type 1} → statement M
+is-word-spec = tie.close (tie.spec header-word-requires cast-w returns)

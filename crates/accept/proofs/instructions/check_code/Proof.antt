@@ -1,0 +1,68 @@
+use Prim.Native.Nat.{_-_}
+use Rattle.scope.specs.Checks.{instructionOk}
+use Rattle.accept.specs.Facts.{Passing}
+use Rattle.accept.proofs.Codes.{code-walks, place-small}
+use borrow.Author.Needs.{needs}
+use Rattle.accept.proofs.instructions.check_code.Statement.{statement}
+use Rattle.accept.proofs.instructions.check_code.Tie as tie
+use Rattle.accept.proofs.instructions.check_code.Reads as reads
+use Rattle.accept.proofs.instructions.check_code.Lts as lts
+use Rattle.accept.proofs.instructions.parts_ok.Reads as parts-ok-reads
+use Rattle.image.proofs.instruction.Reads as instruction-reads
+
+abbrev Inv-loop : tie.InvT-loop
+Inv-loop image at n runs q o₀ o = Passing (instructionOk image (q .program)) (q .count) o
+
+abbrev μ-loop : tie.MeasureT-loop
+μ-loop image at n runs q o₀ o = q .count - o
+
+loop-holds : tie.Need-loop-holds Inv-loop μ-loop
+loop-holds c = search code-walks
+
+add-instruction : tie.Need-add-instruction Inv-loop μ-loop
+add-instruction c = search needs
+
+instruction-requires : tie.Need-instruction-requires Inv-loop μ-loop
+instruction-requires c κs = search needs
+
+parts-ok-requires : tie.Need-parts-ok-requires Inv-loop μ-loop
+parts-ok-requires c κs = search (place-small, needs)
+
+add-o : tie.Need-add-o Inv-loop μ-loop
+add-o c = search needs
+
+loop-less : tie.Need-loop-less Inv-loop μ-loop
+loop-less c = search needs
+
+loop-again : tie.Need-loop-again Inv-loop μ-loop
+loop-again c = search code-walks
+
+add-t11 : tie.Need-add-t11 Inv-loop μ-loop
+add-t11 c = search needs
+
+cast-t12 : tie.Need-cast-t12 Inv-loop μ-loop
+cast-t12 c = search needs
+
+returns : tie.Need-returns Inv-loop μ-loop
+returns c = search code-walks
+
+returns-2 : tie.Need-returns-2 Inv-loop μ-loop
+returns-2 c = search code-walks
+
+pub check-code-spec : {M : Type 1} → statement M
+check-code-spec =
+    tie.close
+    (tie.spec
+    Inv-loop
+    μ-loop
+    loop-holds
+    add-instruction
+    instruction-requires
+    parts-ok-requires
+    add-o
+    loop-less
+    loop-again
+    add-t11
+    cast-t12
+    returns
+    returns-2)

@@ -1,0 +1,20 @@
+use Rattle.accept.proofs.Chain.{codes}
+use borrow.Author.Needs.{needs}
+use Rattle.accept.proofs.instructions.check_program.Statement.{statement}
+use Rattle.accept.proofs.instructions.check_program.Tie as tie
+use Rattle.accept.proofs.instructions.check_program.Reads as reads
+use Rattle.accept.proofs.instructions.check_program.Lts as lts
+use Rattle.accept.proofs.instructions.check_code.Reads as check-code-reads
+use Rattle.accept.proofs.instructions.read_own.Reads as read-own-reads
+
+read-own-requires : tie.Need-read-own-requires
+read-own-requires c κs = search needs
+
+check-code-requires : tie.Need-check-code-requires
+check-code-requires c κs = search (codes, needs)
+
+returns : tie.Need-returns
+returns c = search codes
+
+pub check-program-spec : {M : Type 1} → statement M
+check-program-spec = tie.close (tie.spec read-own-requires check-code-requires returns)

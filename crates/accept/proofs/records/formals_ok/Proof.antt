@@ -1,0 +1,15 @@
+use Rattle.scope.proofs.Bools.{clauses}
+use borrow.Author.Needs.{needs}
+use Rattle.accept.proofs.records.formals_ok.Statement.{statement}
+use Rattle.accept.proofs.records.formals_ok.Tie as tie
+use Rattle.accept.proofs.records.formals_ok.Reads as reads
+use Rattle.accept.proofs.records.formals_ok.Lts as lts
+
+returns : tie.Need-returns
+returns c = search clauses
+
+returns-2 : tie.Need-returns-2
+returns-2 c = search clauses
+
+pub formals-ok-spec : {M : Type 1} → statement M
+formals-ok-spec = tie.close (tie.spec returns returns-2)

@@ -4,7 +4,7 @@ use mathlib.Core.Path.{_≡_, refl, sym, ap, _∙_}
 use mathlib.Core.List.{List, [], _∷_, _++_, append-nil, List·Memᴰ, List·Memᴰ·head, List·Memᴰ·tail, List·Memᴰ·not-nil, List·Memᴰ·cases-cons}
 use mathlib.Core.Logic.{⊎-elim}
 use mathlib.Core.Bool.{Bool, true, false}
-use Prim.Native.Nat.{ℕ, zero, suc, _+_, _<_}
+use Prim.Native.Nat.{ℕ, zero, suc, _+_, _<_, _≤_}
 use native.Mathlib.Omega.{arith}
 use borrow.Author.Tests.{leb-true, eqb-true}
 use lib.Dec.{leb, eqb}
@@ -146,3 +146,7 @@ accepted b at n e p q =
       counted = counted b n q;
       formed = accepted-formed b e;
     }
+
+-- the header can be read
+pub accepted-long : (b : List ℕ) → imageSays b ≡ Fine → 52 ≤ length b
+accepted-long b e = leb-true 52 (length b) (and-both (leb 52 (length b)) (eqb (word b 0) (length b)) (accepted-formed b e .header) .0)

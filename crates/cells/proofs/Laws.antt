@@ -110,16 +110,18 @@ same-bytes k a b pa pb la lb h =
 pub free-fits : Fit free
 free-fits = record { tag = omega arith; zero = omega arith; name = omega arith; value = omega arith }
 
-pub fit-cell : (b : List ℕ) (i : ℕ) → Bytes b → Fit (cellAt b i)
+pub fit-from : (b : List ℕ) (at : ℕ) → Bytes b → Fit (cellFrom b at)
 unfolding u16At u32At
-fit-cell b i p =
-    let k : ℕ = 8 * i in
+fit-from b at p =
     record {
-      tag = p k;
-      zero = p (k + 1);
-      name = omega (arith, p (k + 2), p (k + 2 + 1));
-      value = omega (arith, p (k + 4), p (k + 4 + 1), p (k + 4 + 2), p (k + 4 + 3));
+      tag = p at;
+      zero = p (at + 1);
+      name = omega (arith, p (at + 2), p (at + 2 + 1));
+      value = omega (arith, p (at + 4), p (at + 4 + 1), p (at + 4 + 2), p (at + 4 + 3));
     }
+
+pub fit-cell : (b : List ℕ) (i : ℕ) → Bytes b → Fit (cellAt b i)
+fit-cell b i p = fit-from b (8 * i) p
 
 pub fits-none : Fits []
 fits-none i = free-fits

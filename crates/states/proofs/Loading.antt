@@ -1,0 +1,167 @@
+-- Load: the image's cells are the cells of the objects that it means, so buffers filled from it hold the initial p-state. Assumes nothing.
+use mathlib.Core.Path.{_≡_, refl, sym, ap, _∙_}
+use mathlib.Core.List.{List, [], _∷_, _++_, map, append-nil, append-assoc}
+use Prim.Native.Nat.{ℕ, zero, suc, _+_, _-_, _*_, _<_, _≤_}
+use native.Mathlib.Omega.{arith}
+use borrow.Author.Tests.{eqb-true}
+use lib.ListN.{length, getD, drop}
+use mir.Syntax.{w8}
+use mir.Val.{Fits}
+use Rattle.moore.specs.Objects.{Obj}
+use Rattle.scope.specs.declared.Cell.{Cell}
+use Rattle.scope.specs.Cells.{cellFrom, cell, cellOf}
+use Rattle.scope.specs.Image.{word, areas, constants, dataCells, controlLimit, programField, temps, firstTemp, firstCell, areaLength}
+use Rattle.scope.specs.Image.{constantAt, dataCellAt}
+use Rattle.scope.specs.Checks.{tab, sum, WellFormed}
+use Rattle.scope.specs.Holding.{object, constantOf, initialTemps, areaOf, initial, inBytes, buffer, controlWords, dataWords, Holds}
+use Rattle.scope.specs.Calls.{SameLengths}
+use Rattle.cells.specs.Rows.{cells, cellsFrom, Bytes}
+use Rattle.cells.proofs.Tabs.{length-tab, tab-snoc}
+use Rattle.cells.proofs.Laws.{cells-none, fit-from}
+use Rattle.cells.proofs.Buffers.{inBytes-cells}
+use Rattle.stacks.specs.Stack.{room, stk, Became, Words}
+use Rattle.stacks.proofs.Laws.{cut-words, push-words, words-after, held-buffer}
+use Rattle.image.specs.declared.Offsets.{Offsets}
+use Rattle.image.specs.declared.Counts.{Counts}
+use Rattle.image.specs.Laid.{Accepted}
+use Rattle.states.specs.Loaded.{Cleared, AreasLoaded, BottomLoaded}
+use Rattle.states.proofs.Formed.{some-program, first-cell, cell-place, temps-place}
+use Rattle.states.proofs.Objects.{object-cell}
+
+-- ---- tables
+
+map-tab : {X Y : Type 0} (g : X → Y) (f : ℕ → X) (h : ℕ → Y) (n : ℕ) → ((i : ℕ) → i < n → g (f i) ≡ h i) → map g (tab f n) ≡ tab h n
+map-tab g f h zero e = refl
+map-tab g f h (suc n) e = rw (e 0 (omega arith), map-tab g (λ i. f (suc i)) (λ i. h (suc i)) n (λ i l. e (suc i) (omega arith)))
+
+tab-append : {X : Type 0} (f : ℕ → X) (m n : ℕ) → tab f (m + n) ≡ tab f m ++ tab (λ i. f (m + i)) n
+tab-append f m zero = let e : m + 0 ≡ m = omega arith in rw e (sym (append-nil (tab f m)))
+tab-append {X} f m (suc n) =
+    let e : m + suc n ≡ suc (m + n) = omega arith in
+    rw (e, tab-snoc f (m + n), tab-append f m n, tab-snoc (λ i. f (m + i)) n) (append-assoc (tab f m) (tab (λ i. f (m + i)) n) (f (m + n) ∷ []))
+
+-- ---- the data
+
+data-snoc : (l : List (List Obj)) (x : List Obj) → dataWords (l ++ (x ∷ [])) ≡ dataWords l ++ map cellOf x
+data-snoc [] x = append-nil (map cellOf x)
+data-snoc (y ∷ l) x = ap (λ (z : List Cell). map cellOf y ++ z) (data-snoc l x) ∙ sym (append-assoc (map cellOf y) (dataWords l) (map cellOf x))
+
+module _ (b : List ℕ) (w : WellFormed b) (y : Bytes b) where
+  area-words : (a : ℕ) → a < areas b → map cellOf (areaOf b a) ≡ tab (λ k. dataCellAt b (sum (areaLength b) a + k)) (areaLength b a)
+  area-words a l =
+      map-tab cellOf (λ k. object (dataCellAt b (firstCell b a + k))) (λ k. dataCellAt b (sum (areaLength b) a + k)) (areaLength b a)
+      (λ k h.
+      object-cell b (dataCellAt b (firstCell b a + k)) (w .every-cell (firstCell b a + k) (cell-place b w a k l h)) (fit-from b (word b 10 + 8 * (firstCell b a + k)) y)
+      ∙ ap (λ (s : ℕ). dataCellAt b (s + k)) (first-cell b w a l))
+
+  data-words : (a : ℕ) → a ≤ areas b → dataWords (tab (areaOf b) a) ≡ tab (dataCellAt b) (sum (areaLength b) a)
+  data-words zero l = refl
+  data-words (suc a) l =
+      ap (λ (z : List (List Obj)). dataWords z) (tab-snoc (areaOf b) a)
+      ∙ data-snoc (tab (areaOf b) a) (areaOf b a)
+      ∙ ap (λ (z : List Cell). z ++ map cellOf (areaOf b a)) (data-words a (omega arith))
+      ∙ ap (λ (z : List Cell). tab (dataCellAt b) (sum (areaLength b) a) ++ z) (area-words a (omega arith))
+      ∙ sym (tab-append (dataCellAt b) (sum (areaLength b) a) (areaLength b a))
+
+  -- all of them are the cells of the data section
+  pub initial-areas : dataWords (initial b .areas) ≡ cellsFrom b (word b 10) (dataCells b)
+  unfolding initial cellsFrom
+  initial-areas =
+      let e : sum (areaLength b) (areas b) ≡ dataCells b = eqb-true (sum (areaLength b) (areas b)) (dataCells b) (w .all-cells) in
+      rw e at (data-words (areas b) (omega arith))
+
+  -- ---- the bottom frame
+
+  temp-words : map cellOf (initialTemps b 0) ≡ cellsFrom b (word b 9 + 8 * firstTemp b 0) (temps b 0)
+  unfolding cellsFrom
+  temp-words =
+      map-tab cellOf (λ k. constantOf b (firstTemp b 0 + k)) (λ k. cellFrom b (word b 9 + 8 * firstTemp b 0 + 8 * k)) (temps b 0)
+      (λ k h.
+      let e : word b 9 + 8 * (firstTemp b 0 + k) ≡ word b 9 + 8 * firstTemp b 0 + 8 * k = omega arith in
+      object-cell b (constantAt b (firstTemp b 0 + k))
+      (w .every-constant (firstTemp b 0 + k) (omega (arith, temps-place b w 0 (some-program b w))))
+      (fit-from b (word b 9 + 8 * (firstTemp b 0 + k)) y)
+      ∙ ap (λ (at : ℕ). cellFrom b at) e)
+
+  pub initial-control : controlWords (initial b .ctrl) ≡ (cell 6 0 0 ∷ cell 1 0 0 ∷ []) ++ cellsFrom b (word b 9 + 8 * firstTemp b 0) (temps b 0)
+  unfolding initial
+  initial-control = ap (λ (z : List Cell). cell 6 0 0 ∷ cell 1 0 0 ∷ z) temp-words
+
+-- ---- the buffers
+
+-- what the code knows of every slice
+abbrev Octets : List ℕ → Type 0
+Octets x = (m : ℕ) → Fits w8 (getD x m 0)
+
+bytes : (x : List ℕ) → Octets x → Bytes x
+bytes x o m = o m .fits
+
+pub cleared : (b e : List ℕ) (n : ℕ) → Octets e → length b ≡ 8 * room b → Became b e (n - n) (drop n (stk b n)) → Cleared b e
+cleared b e n y l p =
+    let z : n - n ≡ 0 = omega arith in
+    let q : Words b e 0 [] = rw z at (cut-words b e n n (omega arith) p) in
+    record {
+      words = q;
+      empty = held-buffer e 0 (bytes e y) (omega (arith, q .same)) (q .held) ∙ ap (λ (x : List Cell). buffer (length e) x) (cells-none e);
+    }
+
+module _ (b : List ℕ) (at : Offsets) (n : Counts) (a : Accepted b at n) where
+  pub areas-loaded : (d e x : List ℕ) → Octets b → Octets x → length d ≡ 8 * dataCells b → Cleared d e
+      → Words e x (0 + n .cells) (cells 0 e ++ cellsFrom b (at .cells) (n .cells)) → AreasLoaded b d x
+  areas-loaded d e x y yx l p q =
+      let k : n .cells ≡ dataCells b = a .counted .cells-are in
+      let z : 0 + n .cells ≡ dataCells b = omega arith in
+      let s : length x ≡ length d = q .same ∙ p .words .same in
+      let w : cells (dataCells b) x ≡ dataWords (initial b .areas) =
+      rw (z, k, a .laid .cells-at, cells-none e) at (q .now) ∙ sym (initial-areas b (a .formed) (bytes b y)) in
+      record {
+        filled = sym (ap inBytes (sym w) ∙ inBytes-cells (dataCells b) x (bytes x yx) (s ∙ l));
+        same = s;
+      }
+
+module _ (b : List ℕ) (at : Offsets) (n : Counts) (a : Accepted b at n) (first t : ℕ) (ef : first ≡ programField b 0 4) (et : t ≡ programField b 0 3) where
+  pub temps-in : at .constants + 8 * first + 8 * t ≤ length b
+  temps-in = omega (arith, temps-place b (a .formed) 0 (some-program b (a .formed)), a .laid .constants-in)
+
+  module _ (x e : List ℕ) (l : length x ≡ 8 * controlLimit b) (p : Words x e 2 (cell 6 0 0 ∷ cell 1 0 0 ∷ [])) where
+    pub temps-room : 2 + temps b 0 ≤ controlLimit b → 2 + t ≤ room e
+    temps-room h = omega (arith, p .same)
+
+    pub bottom-loaded : (z : List ℕ) → Octets b → Octets z → Words e z (2 + t) (cells 2 e ++ cellsFrom b (at .constants + 8 * first) t)
+        → BottomLoaded b x z (2 + t)
+    bottom-loaded z y yz q =
+        let s : length z ≡ length x = q .same ∙ p .same in
+        let r : Words x z (2 + t) ((cell 6 0 0 ∷ cell 1 0 0 ∷ []) ++ cellsFrom b (at .constants + 8 * first) t) = words-after x e z 2 (2 + t) _ _ p q in
+        let i : cells (2 + t) z ≡ controlWords (initial b .ctrl) =
+        r .now ∙ rw (ef, et, a .laid .constants-at) (sym (initial-control b (a .formed) (bytes b y))) in
+        record {
+          filled = held-buffer z (2 + t) (bytes z yz) (omega (arith, s, l)) (r .held) ∙ ap (λ (c : List Cell). buffer (length z) c) i;
+          same = s;
+          size = ap (λ (k : ℕ). 2 + k) et;
+        }
+
+pub linked : (x e f g : List ℕ) → Cleared x e → Became e f 1 (cell 6 0 0 ∷ stk e 0) → Became f g 2 (cell 1 0 0 ∷ stk f 1)
+    → Words x g 2 (cell 6 0 0 ∷ cell 1 0 0 ∷ [])
+linked x e f g p q r =
+    words-after x f g 1 2 (cell 6 0 0 ∷ []) (cell 1 0 0 ∷ [])
+    (words-after x e f 0 1 [] (cell 6 0 0 ∷ []) (p .words) (push-words e f 0 (cell 6 0 0) q))
+    (push-words f g 1 (cell 1 0 0) r)
+
+-- ---- the state
+
+pub lengths-kept : (b d t c d′ t′ c′ : List ℕ) (words : ℕ) → AreasLoaded b d d′ → Cleared t t′ → BottomLoaded b c c′ words → SameLengths d t c d′ t′ c′
+lengths-kept b d t c d′ t′ c′ words p q r = record { areas = p .same; temporary = q .words .same; control = r .same }
+
+pub holds-initial : (b d t c d′ t′ c′ : List ℕ) (words : ℕ) → AreasLoaded b d d′ → Cleared t t′ → BottomLoaded b c c′ words
+    → Holds (record { program = 0; offset = record { 0 = 0 }; base = 0; control = words; temporary = 0; status = 0; error = 0 }) d′ t′ c′ (initial b)
+unfolding initial
+holds-initial b d t c d′ t′ c′ words p q r =
+    let e : words ≡ 2 + length (initialTemps b 0) + 0 = omega (arith, r .size, length-tab (λ k. constantOf b (firstTemp b 0 + k)) (temps b 0)) in
+    record {
+      registers = λ i. record { program = 0; offset = record { 0 = 0 }; base = 0; control = e i; temporary = 0; status = 0; error = 0 };
+      areas = p .filled;
+      temporary = q .empty;
+      control = r .filled;
+    }
+
+pub ruleset loading = (cleared, areas-loaded, temps-in, temps-room, bottom-loaded, linked, lengths-kept, holds-initial, arith)

@@ -1,0 +1,60 @@
+use Rattle.states.proofs.Loading.{loading}
+-- `states::load_bottom` meets its contract: the temps' constants are the cells of their objects. Assumes nothing.
+use borrow.Author.Needs.{needs}
+use Rattle.states.proofs.Formed.{some-program}
+use Rattle.states.proofs.Loading.{loading}
+use Rattle.states.proofs.load_bottom.Statement.{statement}
+use Rattle.states.proofs.load_bottom.Tie as tie
+
+program-field-requires : tie.Need-program-field-requires
+program-field-requires c κs = search (some-program, needs)
+
+cast-first : tie.Need-cast-first
+cast-first c = search needs
+
+program-field-requires-2 : tie.Need-program-field-requires-2
+program-field-requires-2 c κs = search (some-program, needs)
+
+load-links-requires : tie.Need-load-links-requires
+load-links-requires c κs = search needs
+
+mul-append-from : tie.Need-mul-append-from
+mul-append-from c = search needs
+
+add-append-from : tie.Need-add-append-from
+add-append-from c = search needs
+
+cast-append-from : tie.Need-cast-append-from
+cast-append-from c = search needs
+
+append-from-requires : tie.Need-append-from-requires
+append-from-requires c κs = search (loading, needs)
+
+cast-result : tie.Need-cast-result
+cast-result c = search needs
+
+add-result : tie.Need-add-result
+add-result c = search needs
+
+same-length : tie.Need-same-length
+same-length c = search needs
+
+returns : tie.Need-returns
+returns c = search (loading, c .slice-known3 .given, c .before .before .before .before .before .before .before .before .before .before .before .before .shared-slice-known .given)
+
+pub load-bottom-spec : {M : Type 1} → statement M
+load-bottom-spec =
+    tie.close
+    (tie.spec
+    program-field-requires
+    cast-first
+    program-field-requires-2
+    load-links-requires
+    mul-append-from
+    add-append-from
+    cast-append-from
+    append-from-requires
+    cast-result
+    add-result
+    same-length
+    returns)

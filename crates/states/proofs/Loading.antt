@@ -23,7 +23,7 @@ use Rattle.stacks.specs.Stack.{room, stk, Became, Words}
 use Rattle.stacks.proofs.Laws.{cut-words, push-words, words-after, held-buffer}
 use Rattle.image.specs.declared.Offsets.{Offsets}
 use Rattle.image.specs.declared.Counts.{Counts}
-use Rattle.image.specs.Laid.{Accepted}
+use Rattle.image.specs.Laid.{Laid, Accepted}
 use Rattle.states.specs.Loaded.{Cleared, AreasLoaded, BottomLoaded}
 use Rattle.states.proofs.Formed.{some-program, first-cell, cell-place, temps-place}
 use Rattle.states.proofs.Objects.{object-cell}
@@ -119,9 +119,9 @@ module _ (b : List ℕ) (at : Offsets) (n : Counts) (a : Accepted b at n) where
         same = s;
       }
 
-module _ (b : List ℕ) (at : Offsets) (n : Counts) (a : Accepted b at n) (first t : ℕ) (ef : first ≡ programField b 0 4) (et : t ≡ programField b 0 3) where
+module _ (b : List ℕ) (at : Offsets) (laid : Laid b at) (formed : WellFormed b) (first t : ℕ) (ef : first ≡ programField b 0 4) (et : t ≡ programField b 0 3) where
   pub temps-in : at .constants + 8 * first + 8 * t ≤ length b
-  temps-in = omega (arith, temps-place b (a .formed) 0 (some-program b (a .formed)), a .laid .constants-in)
+  temps-in = omega (arith, temps-place b formed 0 (some-program b formed), laid .constants-in)
 
   module _ (x e : List ℕ) (l : length x ≡ 8 * controlLimit b) (p : Words x e 2 (cell 6 0 0 ∷ cell 1 0 0 ∷ [])) where
     pub temps-room : 2 + temps b 0 ≤ controlLimit b → 2 + t ≤ room e
@@ -133,7 +133,7 @@ module _ (b : List ℕ) (at : Offsets) (n : Counts) (a : Accepted b at n) (first
         let s : length z ≡ length x = q .same ∙ p .same in
         let r : Words x z (2 + t) ((cell 6 0 0 ∷ cell 1 0 0 ∷ []) ++ cellsFrom b (at .constants + 8 * first) t) = words-after x e z 2 (2 + t) _ _ p q in
         let i : cells (2 + t) z ≡ controlWords (initial b .ctrl) =
-        r .now ∙ rw (ef, et, a .laid .constants-at) (sym (initial-control b (a .formed) (bytes b y))) in
+        r .now ∙ rw (ef, et, laid .constants-at) (sym (initial-control b formed (bytes b y))) in
         record {
           filled = held-buffer z (2 + t) (bytes z yz) (omega (arith, s, l)) (r .held) ∙ ap (λ (c : List Cell). buffer (length z) c) i;
           same = s;

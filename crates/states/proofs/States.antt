@@ -19,7 +19,7 @@ use Rattle.states.proofs.Rooms.{fails}
 
 -- ---- the registers
 
-pub record Legal (b : List ℕ) (r : Registers) : Type 0 where
+record Legal (b : List ℕ) (r : Registers) : Type 0 where
   pub status : r .status ≤ 2
   pub error : r .error ≡ errorCode b r
   pub program : r .program < programs b

@@ -355,7 +355,7 @@ fn frames_ok(
     bottom_ok(image, at, control, p, end)
 }
 
-// The data, and the stacks with these many cells and words in use.
+// The data, and the stacks with this many cells and words in use.
 fn buffers_ok(
     image: &[u8],
     at: Offsets,
@@ -469,8 +469,8 @@ fn load_links(control: &mut [u8])
 }
 
 // "the bottom frame with its initial temps", and how many words it has
-fn load_bottom(image: &[u8], at: Offsets, n: Counts, control: &mut [u8]) -> u32
-    requires { ⌜ Accepted (now image) at n × (length (now control) ≡ 8 * controlLimit (now image))
+fn load_bottom(image: &[u8], at: Offsets, control: &mut [u8]) -> u32
+    requires { ⌜ Laid (now image) at × WellFormed (now image) × (length (now control) ≡ 8 * controlLimit (now image))
         × (2 + temps (now image) 0 ≤ controlLimit (now image)) ⌝ }
     ensures { λ r. ⌜ BottomLoaded (now (image .entry)) (now (control .entry)) (now (control .exit)) r ⌝ }
 {
@@ -499,7 +499,7 @@ pub fn load_state(
 {
     load_areas(image, at, n, areas);
     clear(temporary);
-    let words = load_bottom(image, at, n, control);
+    let words = load_bottom(image, at, control);
     Registers {
         program: 0,
         offset: ProgramOffset(0),

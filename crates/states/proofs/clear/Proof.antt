@@ -1,7 +1,7 @@
-use Rattle.states.proofs.Loading.{loading}
 -- `states::clear` meets its contract: all cells are cut off a buffer that is full. Assumes nothing.
 use borrow.Author.Needs.{needs}
 use Rattle.stacks.proofs.Laws.{full-held}
+use Rattle.states.proofs.Loading.{loading}
 use Rattle.states.proofs.clear.Statement.{statement}
 use Rattle.states.proofs.clear.Tie as tie
 

@@ -6,6 +6,8 @@ use Rattle.states.proofs.Frames.{frames}
 use Rattle.states.proofs.frames_ok.Statement.{statement}
 use Rattle.states.proofs.frames_ok.Tie as tie
 
+-- measure is `end`, which falls to the base of the frame passed. Assumes nothing.
+
 abbrev Inv-loop : tie.InvT-loop
 Inv-loop image at control program base used p₀ from₀ end₀ p from end = Down image control program base used p from end
 

@@ -1,6 +1,6 @@
-use Rattle.states.proofs.Loading.{loading}
 -- `states::load_areas` meets its contract: the cells of the data section are those of the areas' objects. Assumes nothing.
 use borrow.Author.Needs.{needs}
+use Rattle.states.proofs.Loading.{loading}
 use Rattle.states.proofs.load_areas.Statement.{statement}
 use Rattle.states.proofs.load_areas.Tie as tie
 

@@ -1,4 +1,3 @@
-use Rattle.states.proofs.Loading.{loading}
 -- `states::load_bottom` meets its contract: the temps' constants are the cells of their objects. Assumes nothing.
 use borrow.Author.Needs.{needs}
 use Rattle.states.proofs.Formed.{some-program}

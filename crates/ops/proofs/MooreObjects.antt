@@ -99,10 +99,10 @@ module _ (m : Text) (s : State) (x : Obj) (h : p-objectp x m (s .areas) ≡ true
 
 -- ---- equal cells
 
-doubled : (k : ℕ) → 2 ^ suc k ≡ 2 ^ k + 2 ^ k
+pub doubled : (k : ℕ) → 2 ^ suc k ≡ 2 ^ k + 2 ^ k
 doubled k = omega arith
 
-bits-lt : (b : List Bool) → bitsValue b < 2 ^ length b
+pub bits-lt : (b : List Bool) → bitsValue b < 2 ^ length b
 unfolding choose
 bits-lt [] = omega arith
 bits-lt (true ∷ b) = rw (doubled (length b)) (omega (arith, bits-lt b))

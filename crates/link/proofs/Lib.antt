@@ -1,0 +1,12 @@
+pub mod Objects
+pub mod Lists
+pub mod Held
+pub mod Images
+pub mod Texts
+pub mod Shapes
+pub mod Areas
+pub mod Steps
+pub mod Exists
+pub mod Formed
+pub mod Unique
+pub mod Theorems

@@ -1,0 +1,140 @@
+-- The link's theorems, for a well-formed image b of bytes and lent buffers: the machine on cells is Moore's machine on the one proper
+-- p-state that registers and buffers hold. Assumes nothing.
+use mathlib.Core.Path.{_≡_, sym, ap, _∙_}
+use mathlib.Core.List.{List, [], _∷_, map}
+use Prim.Native.Nat.{ℕ, _+_, _≤_}
+use native.Mathlib.Omega.{arith}
+use lib.ListN.{length}
+use Rattle.moore.specs.Objects.{Obj}
+use Rattle.moore.specs.Machine.{Frame, State, run, p-step1, p-step, P, insAt}
+use Rattle.moore.specs.Proper.{All, ProperObj, ProperText, ProperFrames}
+use Rattle.moore.proofs.Lists.{all-map}
+use Rattle.moore.proofs.Proper.{proper-steps}
+use Rattle.scope.specs.declared.Registers.{Registers}
+use Rattle.scope.specs.Image.{controlLimit, temps, instructionOf}
+use Rattle.scope.specs.Checks.{boundsOf, WellFormed}
+use Rattle.scope.specs.States.{StateOk}
+use Rattle.scope.specs.Holding.{textOf, initial, Holds}
+use Rattle.cells.specs.Rows.{Bytes}
+use Rattle.packed.specs.Packed.{sem, settle, step, steps, seen, Roomy}
+use Rattle.link.specs.Pack.{pack, lengthsOf, Lent, Proper, Keeps, Kept}
+use Rattle.link.proofs.Objects.{object-cell}
+use Rattle.link.proofs.Held as H
+use Rattle.link.proofs.Held.{Sees, Same}
+use Rattle.link.proofs.Texts as T
+use Rattle.link.proofs.Shapes.{comes-to}
+use Rattle.link.proofs.Steps as S
+use Rattle.link.proofs.Exists as E
+use Rattle.link.proofs.Formed as F
+use Rattle.link.proofs.Unique.{Told, AllTold, same-state}
+
+-- Registers and buffers of given lengths hold a p-state in one way.
+pub one-packing : {r r' : Registers} {d t c d' t' c' : List ℕ} {s : State} → Holds r d t c s → Holds r' d' t' c' s
+    → length t ≡ length t' → length c ≡ length c' → Same r d t c r' d' t' c'
+one-packing = H.one-packing
+
+module _ (b : List ℕ) (w : WellFormed b) (y : Bytes b) where
+  -- A well-formed image's text is proper.
+  pub text-proper : (d : List (List Obj)) → map length d ≡ lengthsOf b → ProperText (textOf b) d
+  text-proper = T.text-proper b w y
+
+  -- Load's p-state is proper, where the bottom frame fits.
+  pub initial-proper : 2 + temps b 0 ≤ controlLimit b → Proper b (initial b)
+  initial-proper = E.initial-proper b w y
+
+  -- ---- steps
+
+  -- An instruction on cells is Moore's: the same clause of its precondition fails, or it leaves the cells of the p-state after it.
+  pub packs : (s : State) → Proper b s → s .psw ≡ run
+      → sem b (instructionOf b (s .prog) (s .off)) (pack s) ≡ comes-to (insAt (textOf b) (s .prog) (s .off)) (textOf b) s
+  packs = S.packs b w y
+
+  -- So is what is made of its outcome.
+  pub settle-packs : (s : State) → Proper b s → s .psw ≡ run
+      → settle (instructionOf b (s .prog) (s .off) .code) (pack s) (sem b (instructionOf b (s .prog) (s .off)) (pack s))
+      ≡ pack (p-step1 (insAt (textOf b) (s .prog) (s .off)) (textOf b) s)
+  settle-packs = S.settle-packs b w y
+
+  -- A step on cells is Moore's step.
+  pub step-packs : (s : State) → Proper b s → step b (pack s) ≡ pack (p-step (textOf b) s)
+  step-packs = S.step-packs b w y
+
+  -- So are n steps.
+  pub steps-pack : (n : ℕ) (s : State) → Proper b s → steps b (pack s) n ≡ pack (P (textOf b) s n)
+  steps-pack = S.steps-pack b w y
+
+  -- A p-state stays proper.
+  pub steps-proper : (n : ℕ) (s : State) → Proper b s → Proper b (P (textOf b) s n)
+  steps-proper n s k = proper-steps (textOf b) (s .areas) (lengthsOf b) (text-proper (s .areas) (k .lengths)) (k .lengths) s n k
+
+  -- ---- registers and buffers
+
+  module _ (r : Registers) (d t c : List ℕ) (n : Lent b d t c) where
+    -- A well-formed state holds a proper p-state ..
+    pub found : StateOk b r d t c → Kept b r d t c
+    found = E.found b w y r d t c n
+
+    -- .. and what holds a proper p-state is a well-formed state.
+    pub formed : (s : State) → Keeps b r d t c s → StateOk b r d t c
+    formed s k = F.formed b w y s (k .proper) r d t c n (k .holds)
+
+    -- What is seen in registers and buffers that hold a proper p-state is its cells, with free room above ..
+    pub sees : (s : State) → Keeps b r d t c s → Sees r d t c s
+    sees s k =
+        H.holds-sees r d t c s (F.fitting b w y s (k .proper))
+        (omega (arith, n .temporary-length, F.used-cells b w y s (k .proper)))
+        (omega (arith, n .control-length, F.used-words b w y s (k .proper)))
+        (k .holds)
+
+    -- .. and back.
+    pub seen-holds : (s : State) → Sees r d t c s → Holds r d t c s
+    seen-holds s h =
+        H.sees-holds r d t c s (n .data-bytes) (n .temporary-bytes) (n .control-bytes)
+        (omega (arith, n .data-length)) (omega (arith, n .temporary-length)) (omega (arith, n .control-length)) h
+
+  -- every object of a proper p-state is told by its cell
+  told : (s : State) → Proper b s → AllTold s
+  told s k =
+      record {
+        temporary = them (s .temp) (k .temp-objects);
+        areas = all-map (All (ProperObj (textOf b) (s .areas))) (All Told) them (s .areas) (k .area-objects);
+        frames = by (s .prog) (s .ctrl) (k .frames);
+      }
+    where
+      them : (l : List Obj) → All (ProperObj (textOf b) (s .areas)) l → All Told l
+      them =
+          all-map (ProperObj (textOf b) (s .areas)) Told
+          (object-cell (boundsOf b) (textOf b) (s .areas) (T.bounded b w y (s .areas) (k .lengths)))
+
+      by : (p : ℕ) (f : List Frame) → ProperFrames (textOf b) (s .areas) p f → All (λ (g : Frame). All Told (g .locals)) f
+      by p [] h = absurd h
+      by p (g ∷ []) h = (them (g .locals) (h .0 .objects), tt)
+      by p (g ∷ j ∷ f) h = (them (g .locals) (h .0 .objects), by (g .prog) (j ∷ f) (h .2))
+
+  module _ (r : Registers) (d t c : List ℕ) (n : Lent b d t c) where
+    -- The proper p-state that is held is one.
+    pub one-state : (s u : State) → Keeps b r d t c s → Keeps b r d t c u → s ≡ u
+    one-state s u k l =
+        same-state s u (told s (k .proper)) (told u (l .proper)) (k .proper .lengths ∙ sym (l .proper .lengths))
+        (sym (sees r d t c n s k .cells) ∙ sees r d t c n u l .cells)
+
+    module _ (s : State) (k : Keeps b r d t c s) (r' : Registers) (d' t' c' : List ℕ) (n' : Lent b d' t' c') (g : Roomy r' t' c') where
+      -- Registers and buffers in which a step on the cells before is seen hold Moore's step of the p-state before ..
+      pub step-keeps : seen r' d' t' c' ≡ step b (seen r d t c) → Keeps b r' d' t' c' (p-step (textOf b) s)
+      step-keeps e =
+          record {
+            proper = S.step-proper b w y s (k .proper);
+            holds =
+                seen-holds r' d' t' c' n' (p-step (textOf b) s)
+                (record { cells = e ∙ ap (step b) (sees r d t c n s k .cells) ∙ step-packs s (k .proper); roomy = g });
+          }
+
+      -- .. and so with n steps.
+      pub steps-keep : (i : ℕ) → seen r' d' t' c' ≡ steps b (seen r d t c) i → Keeps b r' d' t' c' (P (textOf b) s i)
+      steps-keep i e =
+          record {
+            proper = steps-proper i s (k .proper);
+            holds =
+                seen-holds r' d' t' c' n' (P (textOf b) s i)
+                (record { cells = e ∙ ap (λ x. steps b x i) (sees r d t c n s k .cells) ∙ steps-pack i s (k .proper); roomy = g });
+          }

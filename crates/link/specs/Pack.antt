@@ -1,0 +1,59 @@
+-- The cells of a p-state, how Moore's machine meets the machine on cells; and registers and lent buffers that hold a proper p-state.
+-- Nothing here has to be believed.
+use mathlib.Core.Path.{_≡_}
+use mathlib.Core.List.{List, map}
+use Prim.Native.Nat.{ℕ, _*_}
+use lib.ListN.{length}
+use Rattle.moore.specs.Machine.{State}
+use Rattle.moore.specs.Proper.{ProperState}
+use Rattle.scope.specs.declared.Registers.{Registers}
+use Rattle.scope.specs.Cells.{cellOf}
+use Rattle.scope.specs.Checks.{tab}
+use Rattle.scope.specs.Image.{areas, areaLength, dataCells, controlLimit, temporaryLimit}
+use Rattle.scope.specs.Holding.{textOf, Holds, baseOf, controlWords, dataWords, statusOf, errorOf}
+use Rattle.cells.specs.Rows.{Bytes}
+use Rattle.packed.specs.Packed.{Packed}
+
+-- the cells of s, with another status and error code
+abbrev pub packAs : ℕ → ℕ → State → Packed
+packAs status code s =
+    record {
+      prog = s .prog;
+      off = s .off;
+      base = baseOf (s .ctrl);
+      status = status;
+      error = code;
+      ctrl = controlWords (s .ctrl);
+      temp = map cellOf (s .temp);
+      areas = dataWords (s .areas);
+    }
+
+abbrev pub pack : State → Packed
+pack s = packAs (statusOf (s .psw)) (errorOf (s .psw)) s
+
+-- the lengths of an image's areas, which its p-states have
+abbrev pub lengthsOf : List ℕ → List ℕ
+lengthsOf b = tab (areaLength b) (areas b)
+
+-- the buffers lent for image b: bytes, of the lengths that document 01 asks for
+pub record Lent (b d t c : List ℕ) : Type 0 where
+  pub data-bytes : Bytes d
+  pub temporary-bytes : Bytes t
+  pub control-bytes : Bytes c
+  pub data-length : length d ≡ 8 * dataCells b
+  pub temporary-length : length t ≡ 8 * temporaryLimit b
+  pub control-length : length c ≡ 8 * controlLimit b
+
+-- a proper p-state of image b
+abbrev pub Proper : List ℕ → State → Type 0
+Proper b s = ProperState (textOf b) (lengthsOf b) s
+
+-- registers and buffers hold the proper p-state s
+pub record Keeps (b : List ℕ) (r : Registers) (d t c : List ℕ) (s : State) : Type 0 where
+  pub proper : Proper b s
+  pub holds : Holds r d t c s
+
+-- the one that they hold
+pub record Kept (b : List ℕ) (r : Registers) (d t c : List ℕ) : Type 0 where
+  pub state : State
+  pub keeps : Keeps b r d t c state

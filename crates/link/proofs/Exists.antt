@@ -18,13 +18,13 @@ use Rattle.scope.specs.Image.{word, programs, areas, dataCells, controlLimit, t
 use Rattle.scope.specs.Image.{areaLength, instructionOf, dataCellAt}
 use Rattle.scope.specs.Checks.{tab, sum, boundsOf, WellFormed}
 use Rattle.scope.specs.States.{Frames, bottom, above, Objects, StateOk}
-use Rattle.scope.specs.Holding.{object, constantOf, textOf, initial, baseOf, controlWords, dataWords, statusOf, errorOf}
+use Rattle.scope.specs.Holding.{object, constantOf, textOf, initial, baseOf, controlWords, dataWords, statusOf, errorOf, lengthsOf, Proper}
 use Rattle.cells.specs.Rows.{cells, Bytes}
 use Rattle.cells.proofs.Tabs.{length-tab, tab-snoc}
 use Rattle.cells.proofs.Laws.{length-cells, cells-none, fit-cell, fit-from}
 use Rattle.stacks.specs.Stack.{room, stk}
 use Rattle.stacks.proofs.Laws.{length-stk}
-use Rattle.link.specs.Pack.{lengthsOf, Lent, Proper, Kept}
+use Rattle.link.specs.Pack.{Lent, Kept}
 use Rattle.link.proofs.Lists.{map-tab, tab-same, tab-append, all-tab}
 use Rattle.link.proofs.Objects.{Good, pc-in, cell-object, object-legal}
 use Rattle.link.proofs.Held.{length-words, Sees, sees-holds}

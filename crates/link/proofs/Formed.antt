@@ -17,13 +17,13 @@ use Rattle.scope.specs.Image as I
 use Rattle.scope.specs.Image.{programs, dataCells, controlLimit, temporaryLimit, instructionCount, instructionOf}
 use Rattle.scope.specs.Checks.{boundsOf, WellFormed}
 use Rattle.scope.specs.States.{Frames, bottom, above, Objects, StateOk}
-use Rattle.scope.specs.Holding.{textOf, baseOf, frameWords, controlWords, dataWords, statusOf, errorOf, registersOf, Holds}
+use Rattle.scope.specs.Holding.{textOf, baseOf, frameWords, controlWords, dataWords, statusOf, errorOf, registersOf, Holds, Proper}
 use Rattle.cells.specs.Rows.{cells, Fits, Bytes}
 use Rattle.cells.proofs.Laws.{length-cells, getD-cells, take-cells, free-fits}
 use Rattle.stacks.specs.Stack.{room}
 use Rattle.stacks.proofs.Laws.{reverse-stk}
 use Rattle.packed.specs.Packed.{Packed}
-use Rattle.link.specs.Pack.{Lent, Proper}
+use Rattle.link.specs.Pack.{Lent}
 use Rattle.link.proofs.Lists.{all-mapped}
 use Rattle.link.proofs.Objects.{Good, is-nat, is-pc, passes, object-passes, object-fits}
 use Rattle.link.proofs.Held.{length-words, Fitting, Sees, holds-sees}

@@ -24,7 +24,7 @@ use Rattle.scope.specs.Image as I
 use Rattle.scope.specs.Image.{programs, areas, instructionCount, formals, temps, firstTemp, firstCell, areaLength, controlLimit}
 use Rattle.scope.specs.Image.{temporaryLimit, instructionOf, kindOf, operandBound}
 use Rattle.scope.specs.Checks.{tab, boundsOf, casesOk, WellFormed}
-use Rattle.scope.specs.Holding.{baseOf, controlWords, dataWords, statusOf, errorOf, constantOf, insList, initialTemps, textOf}
+use Rattle.scope.specs.Holding.{baseOf, controlWords, dataWords, statusOf, errorOf, constantOf, insList, initialTemps, textOf, lengthsOf, Proper}
 use Rattle.cells.specs.Rows.{Bytes}
 use Rattle.cells.proofs.Tabs.{length-tab, getD-tab}
 use Rattle.ops.specs.declared.Made.the-variants.{Is, No}
@@ -35,7 +35,7 @@ use Rattle.ops.proofs.Moore as O
 use Rattle.ops.proofs.MooreObjects.{tag-of, addr-name, addr-value, type-test}
 use Rattle.packed.specs.Packed.{next, fails, needs, fetched, depositsOn, chosenOn, choosesOn, calls, tempCells, sem, settle, step, steps}
 use Rattle.packed.specs.Packed as B
-use Rattle.link.specs.Pack.{packAs, pack, lengthsOf, Proper}
+use Rattle.link.specs.Pack.{packAs, pack}
 use Rattle.link.proofs.Lists.{map-append, map-reverse, map-take, map-drop, AllAt, done, _&_}
 use Rattle.link.proofs.Objects.{in-area}
 use Rattle.link.proofs.Held.{length-words}

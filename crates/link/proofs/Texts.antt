@@ -19,13 +19,12 @@ use Rattle.scope.specs.Image.{word, programs, areas, constants, instructionCoun
 use Rattle.scope.specs.Image.{instructionOf, constantAt, kindOf, operandBound}
 use Rattle.scope.specs.Checks as K
 use Rattle.scope.specs.Checks.{tab, boundsOf, everyCase, casesOk, WellFormed}
-use Rattle.scope.specs.Holding.{constantOf, insList, insOf, initialTemps, programOf, textOf}
+use Rattle.scope.specs.Holding.{constantOf, insList, insOf, initialTemps, programOf, textOf, lengthsOf}
 use Rattle.scope.proofs.Bools.{and-both}
 use Rattle.cells.specs.Rows.{cellsFrom, Bytes}
 use Rattle.cells.proofs.Tabs.{length-tab, getD-tab}
 use Rattle.cells.proofs.Laws.{fit-from}
 use Rattle.packed.specs.Packed.{tempCells}
-use Rattle.link.specs.Pack.{lengthsOf}
 use Rattle.link.proofs.Lists.{map-tab, tab-same, all-tab, AllAt, done, _&_, at-number}
 use Rattle.link.proofs.Objects.{Bounded, pc-in, in-program, cell-object, object-legal}
 use Rattle.link.proofs.Images.{Operands, case-at, few-programs, few-areas, few-words, few-temporary, area-some, area-short}

@@ -14,10 +14,10 @@ use Rattle.scope.specs.declared.Registers.{Registers}
 use Rattle.scope.specs.Image.{controlLimit, temps, instructionOf}
 use Rattle.scope.specs.Checks.{boundsOf, WellFormed}
 use Rattle.scope.specs.States.{StateOk}
-use Rattle.scope.specs.Holding.{textOf, initial, Holds}
+use Rattle.scope.specs.Holding.{textOf, initial, Holds, lengthsOf, Proper, Keeps}
 use Rattle.cells.specs.Rows.{Bytes}
 use Rattle.packed.specs.Packed.{sem, settle, step, steps, seen, Roomy}
-use Rattle.link.specs.Pack.{pack, lengthsOf, Lent, Proper, Keeps, Kept}
+use Rattle.link.specs.Pack.{pack, Lent, Kept}
 use Rattle.link.proofs.Objects.{object-cell}
 use Rattle.link.proofs.Held as H
 use Rattle.link.proofs.Held.{Sees, Same}

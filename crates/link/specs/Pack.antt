@@ -5,12 +5,10 @@ use mathlib.Core.List.{List, map}
 use Prim.Native.Nat.{ℕ, _*_}
 use lib.ListN.{length}
 use Rattle.moore.specs.Machine.{State}
-use Rattle.moore.specs.Proper.{ProperState}
 use Rattle.scope.specs.declared.Registers.{Registers}
 use Rattle.scope.specs.Cells.{cellOf}
-use Rattle.scope.specs.Checks.{tab}
-use Rattle.scope.specs.Image.{areas, areaLength, dataCells, controlLimit, temporaryLimit}
-use Rattle.scope.specs.Holding.{textOf, Holds, baseOf, controlWords, dataWords, statusOf, errorOf}
+use Rattle.scope.specs.Image.{dataCells, controlLimit, temporaryLimit}
+use Rattle.scope.specs.Holding.{Keeps, baseOf, controlWords, dataWords, statusOf, errorOf}
 use Rattle.cells.specs.Rows.{Bytes}
 use Rattle.packed.specs.Packed.{Packed}
 
@@ -31,10 +29,6 @@ packAs status code s =
 abbrev pub pack : State → Packed
 pack s = packAs (statusOf (s .psw)) (errorOf (s .psw)) s
 
--- the lengths of an image's areas, which its p-states have
-abbrev pub lengthsOf : List ℕ → List ℕ
-lengthsOf b = tab (areaLength b) (areas b)
-
 -- the buffers lent for image b: bytes, of the lengths that document 01 asks for
 pub record Lent (b d t c : List ℕ) : Type 0 where
   pub data-bytes : Bytes d
@@ -43,15 +37,6 @@ pub record Lent (b d t c : List ℕ) : Type 0 where
   pub data-length : length d ≡ 8 * dataCells b
   pub temporary-length : length t ≡ 8 * temporaryLimit b
   pub control-length : length c ≡ 8 * controlLimit b
-
--- a proper p-state of image b
-abbrev pub Proper : List ℕ → State → Type 0
-Proper b s = ProperState (textOf b) (lengthsOf b) s
-
--- registers and buffers hold the proper p-state s
-pub record Keeps (b : List ℕ) (r : Registers) (d t c : List ℕ) (s : State) : Type 0 where
-  pub proper : Proper b s
-  pub holds : Holds r d t c s
 
 -- the one that they hold
 pub record Kept (b : List ℕ) (r : Registers) (d t c : List ℕ) : Type 0 where

@@ -14,7 +14,7 @@ use Rattle.scope.specs.declared.Ran.{Ran}
 use Rattle.scope.specs.declared.Said.{Said}
 use Rattle.scope.specs.Image.{areas, dataCells, controlLimit, temporaryLimit, temps}
 use Rattle.scope.specs.Checks.{Test, test, firstFailing, imageSays}
-use Rattle.scope.specs.Holding.{textOf, initial, Holds, statusOf, dataWords}
+use Rattle.scope.specs.Holding.{textOf, initial, Holds, Keeps, statusOf, dataWords}
 use Rattle.scope.specs.States.{StateOk}
 use Rattle.scope.specs.Reach.{Report}
 use Rattle.scope.specs.declared.Cell.{Cell}
@@ -104,9 +104,9 @@ pub record Runs (b : List ℕ) (r : Registers) (d t c : List ℕ) (budget : ℕ)
   pub says : StateSays (runSays b (length d) (length t) (length c)) b r d t c said
   pub refused : (n p : ℕ) → said ≡ Refused n p
       → (out ≡ record { answer = n; place = p; steps = 0; registers = r }) × Same d t c d′ t′ c′
-  pub ran : said ≡ Fine → (s : State) → Holds r d t c s
+  pub ran : said ≡ Fine → (s : State) → Keeps b r d t c s
       → Count (textOf b) s budget (out .steps) × (out .answer ≡ answerOf (P (textOf b) s (out .steps) .psw)) × (out .place ≡ 0)
-      × SameLengths d t c d′ t′ c′ × Holds (out .registers) d′ t′ c′ (P (textOf b) s (out .steps))
+      × SameLengths d t c d′ t′ c′ × Keeps b (out .registers) d′ t′ c′ (P (textOf b) s (out .steps))
 
 -- ---- report
 
@@ -117,7 +117,7 @@ pub record Reports (b : List ℕ) (r : Registers) (d t c k : List ℕ) (out : Sa
   pub place : out .place ≡ placeOf said
   pub same : Same d t c d′ t′ c′
   pub refused : (n p : ℕ) → said ≡ Refused n p → k′ ≡ k
-  pub done : said ≡ Fine → (s : State) → Holds r d t c s → Report (textOf b) s k′
+  pub done : said ≡ Fine → (s : State) → Keeps b r d t c s → Report (textOf b) s k′
 
 -- ---- one step; "on anything not accepted" nothing changes
 
@@ -125,8 +125,8 @@ pub record Steps (b : List ℕ) (r : Registers) (d t c : List ℕ) (r′ : Regis
   pub said : Checked
   pub says : StateSays (runSays b (length d) (length t) (length c)) b r d t c said
   pub refused : (n p : ℕ) → said ≡ Refused n p → (r′ ≡ r) × Same d t c d′ t′ c′
-  pub stepped : said ≡ Fine → (s : State) → Holds r d t c s
-      → SameLengths d t c d′ t′ c′ × Holds r′ d′ t′ c′ (p-step (textOf b) s)
+  pub stepped : said ≡ Fine → (s : State) → Keeps b r d t c s
+      → SameLengths d t c d′ t′ c′ × Keeps b r′ d′ t′ c′ (p-step (textOf b) s)
 
 -- `number tag name value`
 abbrev pub cellLines : ℕ → List Cell → List (List ℕ)

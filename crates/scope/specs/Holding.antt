@@ -8,6 +8,7 @@ use Rattle.moore.specs.Machine.{set-global, jump, jump-case, test-nat-and-jump,
 use Rattle.moore.specs.Machine.{add-addr, sub-addr, lt-addr, fetch, deposit, add-int, sub-int, neg-int, lt-int, int-to-nat, add-nat}
 use Rattle.moore.specs.Machine.{add1-nat, sub-nat, sub1-nat, lt-nat, or-bool, and-bool, not-bool, Program, Text, State, run, Frame, Psw}
 use Rattle.moore.specs.Machine.{halt, error, ctrl-size}
+use Rattle.moore.specs.Proper.{ProperState}
 use Rattle.scope.specs.declared.Cell.{Cell}
 use Rattle.scope.specs.declared.Instruction.{Instruction}
 use Rattle.scope.specs.Image.{programs, areas, constants, controlLimit, temporaryLimit, instructionCount, formals, temps, firstTemp}
@@ -137,3 +138,18 @@ pub record Holds (r : Registers) (d t c : List ℕ) (s : State) : Type 0 where
   pub areas : d ≡ inBytes (dataWords (s .areas))
   pub temporary : t ≡ buffer (length t) (map cellOf (reverse (s .temp)))
   pub control : c ≡ buffer (length c) (controlWords (s .ctrl))
+
+-- ---- the p-state that an image, registers and buffers hold
+
+-- the lengths of the image's areas
+abbrev pub lengthsOf : List ℕ → List ℕ
+lengthsOf b = tab (areaLength b) (areas b)
+
+-- a proper p-state of the image: its words, its areas
+abbrev pub Proper : List ℕ → State → Type 0
+Proper b s = ProperState (textOf b) (lengthsOf b) s
+
+-- packed as `Holds` says; the bytes alone would hold others too, as a number that is too large for its word
+pub record Keeps (b : List ℕ) (r : Registers) (d t c : List ℕ) (s : State) : Type 0 where
+  pub proper : Proper b s
+  pub holds : Holds r d t c s

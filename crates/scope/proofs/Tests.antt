@@ -76,7 +76,7 @@ unfolding firstFailing choose
 head-fine true n p ts e = (refl, e)
 head-fine false n p ts e = let z : _≡_ {A = ℕ} 0 1 = cc in absurd (omega arith)
 
-both-fine : (x y : Checked) → andThen x y ≡ Fine → (x ≡ Fine) × (y ≡ Fine)
+pub both-fine : (x y : Checked) → andThen x y ≡ Fine → (x ≡ Fine) × (y ≡ Fine)
 unfolding andThen
 both-fine Fine y e = (refl, e)
 both-fine (Refused n p) y e = let z : _≡_ {A = ℕ} 0 1 = cc in absurd (omega arith)

@@ -1,0 +1,45 @@
+-- "The state is then well-formed": a load that is done leaves a well-formed state, which holds Moore's initial p-state of the image.
+use mathlib.Core.Path.{_≡_, refl, sym, _∙_}
+use mathlib.Core.List.{List, [], _∷_}
+use Prim.Native.Nat.{ℕ, _+_}
+use lib.Dec.{leb}
+use lib.ListN.{length}
+use Rattle.scope.specs.declared.Checked.{Checked}
+use Rattle.scope.specs.declared.Checked.the-variants.{Fine, Refused}
+use Rattle.scope.specs.declared.Loaded.{Loaded}
+use Rattle.scope.specs.Image.{temps, controlLimit}
+use Rattle.scope.specs.Checks.{test, firstFailing, imageSays}
+use Rattle.scope.specs.States.{StateOk}
+use Rattle.scope.specs.Holding.{initial, Keeps}
+use Rattle.scope.specs.Calls.{andThen, bufferTests, loadSays, Loads}
+use Rattle.scope.proofs.Tests.{both-fine}
+use Rattle.cells.specs.Rows.{Bytes}
+use Rattle.accept.proofs.Exact.{accepted-formed}
+use Rattle.states.proofs.Lengths.{sized, bottom-room}
+use Rattle.link.specs.Pack.{Lent}
+use Rattle.link.proofs.Theorems.{initial-proper, formed}
+
+pub record LoadedWell (b : List ℕ) (out : Loaded) (d t c : List ℕ) : Type 0 where
+  pub keeps : Keeps b (out .registers) d t c (initial b)
+  pub formed : StateOk b (out .registers) d t c
+
+pub loaded-well : (b d t c : List ℕ) (out : Loaded) (d′ t′ c′ : List ℕ) → Bytes b → Bytes d′ → Bytes t′ → Bytes c′ → Loads b d t c out d′ t′ c′
+    → loadSays b (length d) (length t) (length c) ≡ Fine → LoadedWell b out d′ t′ c′
+unfolding loadSays
+loaded-well b d t c out d′ t′ c′ yb yd yt yc l e =
+    let v = both-fine (imageSays b) _ e in
+    let w = accepted-formed b (v .0) in
+    let z = sized b d t c _ Fine (sym (v .1)) refl in
+    let h = l .done e in
+    let k : Keeps b (out .registers) d′ t′ c′ (initial b) =
+    record { proper = initial-proper b w yb (bottom-room b (length d) (length t) (length c) Fine (sym (v .1)) refl); holds = h .1 } in
+    let n : Lent b d′ t′ c′ =
+    record {
+      data-bytes = yd;
+      temporary-bytes = yt;
+      control-bytes = yc;
+      data-length = h .0 .areas ∙ z .areas;
+      temporary-length = h .0 .temporary ∙ z .temporary;
+      control-length = h .0 .control ∙ z .control;
+    } in
+    record { keeps = k; formed = formed b w yb (out .registers) d′ t′ c′ n (initial b) k }

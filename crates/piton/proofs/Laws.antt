@@ -1,10 +1,13 @@
 -- The promises of the calls, case by case, as rules for `search`.
 use mathlib.Core.Path.{_≡_, refl, sym, ap, _∙_}
 use mathlib.Core.List.{List, [], _∷_}
+use mathlib.Core.Bool.{Bool, true, false}
 use Prim.Native.Nat.{ℕ, _+_, _≤_}
 use native.Mathlib.Omega.{arith}
+use borrow.Author.Tests.{ne-eqb}
 use lib.Dec.{leb}
 use lib.ListN.{length}
+use Rattle.moore.specs.Objects.{choose}
 use Rattle.scope.specs.declared.Checked.{Checked}
 use Rattle.scope.specs.declared.Checked.the-variants.{Fine, Refused}
 use Rattle.scope.specs.declared.Loaded.{Loaded}
@@ -12,8 +15,17 @@ use Rattle.scope.specs.declared.Registers.{Registers}
 use Rattle.scope.specs.Image.{temps, controlLimit}
 use Rattle.scope.specs.Checks.{test, firstFailing, imageSays}
 use Rattle.scope.specs.Holding.{initial, Holds}
+use Rattle.scope.specs.declared.Ran.{Ran}
+use Rattle.scope.specs.States.{StateOk}
+use Rattle.scope.specs.Calls.{StateSays, before, ill-formed, well-formed, runSays, Runs}
 use Rattle.scope.specs.Calls.{andThen, bufferTests, loadSays, noRegisters, numberOf, placeOf, Same, SameLengths, Loads}
-use Rattle.piton.specs.Answers.{refusedLoad}
+use Rattle.image.specs.declared.Counts.{Counts}
+use Rattle.image.specs.Laid.{Counted, countsOf}
+use Rattle.accept.proofs.Chain.{counted}
+use Rattle.states.specs.Lengths.{lengthTests, Sized}
+use Rattle.states.specs.Parts.{Decides}
+use Rattle.states.proofs.Lengths.{by-counts, sized}
+use Rattle.piton.specs.Answers.{refusedLoad, refusedRun, answerOfStatus, RanWell}
 
 -- ---- load
 
@@ -66,3 +78,75 @@ pub ruleset loads = (load-bad-image, load-bad-buffer, load-done)
 -- what the check of the image said
 pub said-fine : (b : List ℕ) (x : Checked) → x ≡ imageSays b → x ≡ Fine → imageSays b ≡ Fine
 said-fine b x e f = sym e ∙ f
+
+-- ---- run
+
+pub answer-halt : (status : ℕ) → status ≡ 1 → 0 ≡ answerOfStatus status
+unfolding answerOfStatus choose
+answer-halt status h = rw h
+
+pub answer-error : (status : ℕ) → status ≡ 2 → 2 ≡ answerOfStatus status
+unfolding answerOfStatus choose
+answer-error status h = rw h
+
+pub answer-run : (status : ℕ) → (status ≡ 1 → ⊥) → (status ≡ 2 → ⊥) → 1 ≡ answerOfStatus status
+unfolding answerOfStatus choose
+answer-run status p q = simp (ne-eqb status 1 p, ne-eqb status 2 q)
+
+pub ruleset answers = (answer-halt, answer-error, answer-run, arith)
+
+module _ (b : List ℕ) (r : Registers) (d t c : List ℕ) (budget : ℕ) where
+  -- image and buffers, and then the state
+  not-run : (n p : ℕ) (out : Ran) → StateSays (runSays b (length d) (length t) (length c)) b r d t c (Refused n p) → out ≡ refusedRun n p r
+      → Runs b r d t c budget out d t c
+  unfolding refusedRun
+  not-run n p out v e =
+      record {
+        said = Refused n p;
+        says = v;
+        refused = λ m q w.
+            let x : n ≡ m = cc in
+            let z : p ≡ q = cc in
+            (e ∙ rw (x, z), record { areas = refl; temporary = refl; control = refl });
+        ran = λ w. let z : _≡_ {A = ℕ} 0 1 = cc in absurd (omega arith);
+      }
+
+  pub run-bad-image : (x : Checked) (n p : ℕ) (out : Ran) → x ≡ imageSays b → x ≡ Refused n p → out ≡ refusedRun n p r
+      → Runs b r d t c budget out d t c
+  unfolding runSays andThen
+  run-bad-image x n p out e f h = not-run n p out (before (let q : imageSays b ≡ Refused n p = cc in rw q)) h
+
+  run-by : (m : Counts) (v : Checked) → imageSays b ≡ Fine → Counted b m
+      → v ≡ firstFailing (lengthTests m (length d) (length t) (length c) []) → runSays b (length d) (length t) (length c) ≡ v
+  unfolding runSays andThen
+  run-by m v i k e = rw i (sym (by-counts b m (length d) (length t) (length c) [] v k e))
+
+  pub run-bad-buffer : (m : Counts) (v : Checked) (n p : ℕ) (out : Ran) → imageSays b ≡ Fine → m ≡ countsOf b
+      → v ≡ firstFailing (lengthTests m (length d) (length t) (length c) []) → v ≡ Refused n p → out ≡ refusedRun n p r
+      → Runs b r d t c budget out d t c
+  run-bad-buffer m v n p out i k e f h = not-run n p out (before (run-by m v i (counted b m k) e ∙ f)) h
+
+  pub run-says : (m : Counts) (v : Checked) → imageSays b ≡ Fine → m ≡ countsOf b
+      → v ≡ firstFailing (lengthTests m (length d) (length t) (length c) []) → v ≡ Fine
+      → runSays b (length d) (length t) (length c) ≡ Fine
+  run-says m v i k e f = run-by m v i (counted b m k) e ∙ f
+
+  pub run-sized : (m : Counts) (v : Checked) → m ≡ countsOf b → v ≡ firstFailing (lengthTests m (length d) (length t) (length c) [])
+      → v ≡ Fine → Sized b d t c
+  run-sized m v k e f = sized b d t c [] v (by-counts b m (length d) (length t) (length c) [] v (counted b m k) e) f
+
+  pub run-bad-state : (g : Bool) (out : Ran) → runSays b (length d) (length t) (length c) ≡ Fine → Decides g (StateOk b r d t c) → g ≡ false
+      → out ≡ refusedRun 19 0 r → Runs b r d t c budget out d t c
+  run-bad-state g out v q f h = not-run 19 0 out (ill-formed v (q .no f)) h
+
+  pub run-done : (g : Bool) (out : Ran) (d′ t′ c′ : List ℕ) → runSays b (length d) (length t) (length c) ≡ Fine → Decides g (StateOk b r d t c)
+      → g ≡ true → RanWell b r d t c budget out d′ t′ c′ → Runs b r d t c budget out d′ t′ c′
+  run-done g out d′ t′ c′ v q f h =
+      record {
+        said = Fine;
+        says = well-formed v (q .yes f);
+        refused = λ m p w. let z : _≡_ {A = ℕ} 0 1 = cc in absurd (omega arith);
+        ran = λ w. h .well;
+      }
+
+pub ruleset runs = (run-bad-image, run-bad-buffer, run-bad-state, run-done)

@@ -1,14 +1,22 @@
-// The face: load, exported to C. Every call takes every input.
+// The face: load and run, exported to C. Every call takes every input.
 ghost use mathlib.Core.Path.{_≡_};
-ghost use lib.ListN.{length};
-ghost use Rattle.scope.specs.declared.Checked.the-variants.{Fine, Refused};
+ghost use Rattle.scope.specs.declared.Checked.the-variants.{Fine};
 ghost use Rattle.scope.specs.Checks.{imageSays};
-ghost use Rattle.scope.specs.Calls.{noRegisters, loadSays, Loads};
-ghost use Rattle.piton.specs.Answers.{refusedLoad};
+ghost use Rattle.scope.specs.States.{StateOk};
+ghost use Rattle.scope.specs.Calls.{runSays, Loads, Runs};
+ghost use lib.ListN.{length};
+ghost use Rattle.image.specs.Laid.{Accepted};
+ghost use Rattle.states.specs.Lengths.{Sized};
+ghost use Rattle.piton.specs.Answers.{refusedLoad, refusedRun, answerOfStatus, RanWell};
+use image::Counts;
+use image::Offsets;
 use scope::Checked;
 use scope::Loaded;
 use scope::ProgramOffset;
+use scope::Ran;
 use scope::Registers;
+
+// ---- load
 
 // "a refused load returns zeros with status 3"
 fn refused_load(answer: u32, place: u32) -> Loaded
@@ -66,5 +74,121 @@ pub extern "C" fn piton_load(
     match checked {
         Checked::Fine => load_image(image, areas, temporary, control),
         Checked::Refused { answer, place } => refused_load(answer, place),
+    }
+}
+
+// ---- run
+
+// "A refused run returns its state and 0 steps"
+fn refused_run(answer: u32, place: u32, registers: Registers) -> Ran
+    ensures { λ r. ⌜ r ≡ refusedRun answer place registers ⌝ }
+{
+    Ran {
+        answer,
+        place,
+        steps: 0,
+        registers,
+    }
+}
+
+// 0 HALT, 2 ERROR, 1 "budget spent, status RUN"
+fn answer_of(status: u32) -> u32
+    ensures { λ r. ⌜ r ≡ answerOfStatus status ⌝ }
+{
+    match status {
+        1 => 0,
+        2 => 2,
+        _ => 1,
+    }
+}
+
+// A run of a well-formed state.
+fn run_state(
+    image: &[u8],
+    at: Offsets,
+    n: Counts,
+    registers: Registers,
+    areas: &mut [u8],
+    temporary: &mut [u8],
+    control: &mut [u8],
+    budget: u32,
+) -> Ran
+    requires { ⌜ Accepted (now image) at n × Sized (now image) (now areas) (now temporary) (now control)
+        × StateOk (now image) registers (now areas) (now temporary) (now control) ⌝ }
+    ensures { λ r. ⌜ RanWell (now (image .entry)) registers (now (areas .entry)) (now (temporary .entry)) (now (control .entry)) budget r
+        (now (areas .exit)) (now (temporary .exit)) (now (control .exit)) ⌝ }
+{
+    let ended = runs::run(image, at, n, registers, areas, temporary, control, budget);
+    let left = ended.registers;
+    Ran {
+        answer: answer_of(left.status),
+        place: 0,
+        steps: ended.steps,
+        registers: left,
+    }
+}
+
+// A run over an accepted image and buffers of the right lengths.
+fn run_sized(
+    image: &[u8],
+    at: Offsets,
+    n: Counts,
+    registers: Registers,
+    areas: &mut [u8],
+    temporary: &mut [u8],
+    control: &mut [u8],
+    budget: u32,
+) -> Ran
+    requires { ⌜ Accepted (now image) at n × Sized (now image) (now areas) (now temporary) (now control)
+        × (runSays (now image) (length (now areas)) (length (now temporary)) (length (now control)) ≡ Fine) ⌝ }
+    ensures { λ r. ⌜ Runs (now (image .entry)) registers (now (areas .entry)) (now (temporary .entry)) (now (control .entry)) budget r
+        (now (areas .exit)) (now (temporary .exit)) (now (control .exit)) ⌝ }
+{
+    if states::state_ok(image, at, n, registers, areas, temporary, control) {
+        run_state(image, at, n, registers, areas, temporary, control, budget)
+    } else {
+        refused_run(19, 0, registers)
+    }
+}
+
+// A run over an accepted image.
+fn run_image(
+    image: &[u8],
+    registers: Registers,
+    areas: &mut [u8],
+    temporary: &mut [u8],
+    control: &mut [u8],
+    budget: u32,
+) -> Ran
+    requires { ⌜ imageSays (now image) ≡ Fine ⌝ }
+    ensures { λ r. ⌜ Runs (now (image .entry)) registers (now (areas .entry)) (now (temporary .entry)) (now (control .entry)) budget r
+        (now (areas .exit)) (now (temporary .exit)) (now (control .exit)) ⌝ }
+{
+    let n = image::read_counts(image);
+    let at = image::read_offsets(image);
+    let lengths = states::check_buffers(n, areas.len(), temporary.len(), control.len());
+    match lengths {
+        Checked::Fine => run_sized(image, at, n, registers, areas, temporary, control, budget),
+        Checked::Refused { answer, place } => refused_run(answer, place, registers),
+    }
+}
+
+// Checks image, buffers and state, and runs under the budget.
+#[no_mangle]
+pub extern "C" fn piton_run(
+    image: &[u8],
+    registers: Registers,
+    areas: &mut [u8],
+    temporary: &mut [u8],
+    control: &mut [u8],
+    budget: u32,
+) -> Ran
+    ensures { λ r. ⌜ Runs (now (image .entry)) registers (now (areas .entry)) (now (temporary .entry)) (now (control .entry)) budget r
+        (now (areas .exit)) (now (temporary .exit)) (now (control .exit)) ⌝ }
+{
+    let checked = accept::check(image);
+    match checked {
+        Checked::Fine => run_image(image, registers, areas, temporary, control, budget),
+        Checked::Refused { answer, place } => refused_run(answer, place, registers),
     }
 }

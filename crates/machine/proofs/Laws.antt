@@ -2,10 +2,10 @@
 use mathlib.Core.Path.{_≡_, refl, sym, ap, _∙_}
 use mathlib.Core.List.{List, [], _∷_, _++_, reverse, append-assoc}
 use mathlib.Core.Bool.{Bool, true, false, _&&_}
-use Prim.Native.Nat.{ℕ, zero, suc, _+_, _-_, _*_, _/_, _<_, _≤_}
+use Prim.Native.Nat.{ℕ, _+_, _-_, _*_, _<_, _≤_}
 use native.Mathlib.Omega.{arith}
 use borrow.Author.Tests.{ltb-true, eqb-true, eq-eqb, ne-eqb, lt-ltb, le-ltb, le-leb, lt-leb}
-use lib.Dec.{ltb, leb, eqb}
+use lib.Dec.{ltb, eqb}
 use lib.ListN.{length, getD, set, take, drop}
 use Rattle.moore.specs.Objects.{choose}
 use Rattle.scope.specs.declared.Cell.{Cell}
@@ -27,10 +27,10 @@ use Rattle.ops.specs.declared.Tested.the-variants as T
 use Rattle.ops.specs.declared.Chosen.{Chosen}
 use Rattle.ops.specs.declared.Chosen.the-variants as C
 use Rattle.ops.specs.Ops.{addAddr, raised, choiceOf}
-use Rattle.packed.specs.Packed.{Packed, Out, next, fails, needs, settle, seen, onward, goto, Roomy, pushes, drops, madeOn, unaryOn, binaryOn}
+use Rattle.packed.specs.Packed.{Packed, Out, next, fails, needs, settle, seen, onward, goto, pushes, drops, madeOn, unaryOn, binaryOn}
 use Rattle.packed.specs.Packed.{placeOf, fetched, depositsOn, storesData, storesLocal, testsOn, testedOn, choosesOn, chosenOn, returns, tempCells, calls}
 use Rattle.machine.specs.Shapes.{makes, unaries, binaries, addAddrIn, fetches, puts, deposits, dataStores, localStores, jumps, passes, tests, cases}
-use Rattle.machine.specs.Did.{placedOf, stoppedOf, erredOf, returnedOf, enteredOf, frameHead, Did, DidTemporary, DidData, DidControl, DidFrame}
+use Rattle.machine.specs.Did.{placedOf, stoppedOf, erredOf, returnedOf, enteredOf, frameHead, DidTemporary, DidData, DidControl, DidFrame}
 use Rattle.machine.specs.Did.{DidRegisters, PutData, PutLocal, Left, Opened, Entered}
 use Rattle.machine.specs.Asks.{Points, Pointing, Callable, Enters}
 

@@ -1,7 +1,7 @@
 -- What the code of an instruction does to registers and lent buffers, said of the states that they hold before and after.
 use mathlib.Core.Path.{_≡_}
 use mathlib.Core.List.{List, [], _∷_, _++_, reverse}
-use Prim.Native.Nat.{ℕ, _+_, _-_, _<_, _≤_}
+use Prim.Native.Nat.{ℕ, _+_, _-_}
 use lib.ListN.{getD, set, take, drop}
 use Rattle.scope.specs.declared.Cell.{Cell}
 use Rattle.scope.specs.declared.Registers.{Registers}

@@ -1,6 +1,6 @@
 -- The shapes of instructions as functions of a state alone, as `sem` of the machine on cells has them in its arms.
 use mathlib.Core.List.{List}
-use Prim.Native.Nat.{ℕ, _+_}
+use Prim.Native.Nat.{ℕ}
 use lib.Dec.{eqb}
 use lib.ListN.{set, drop}
 use Rattle.scope.specs.declared.Cell.{Cell}

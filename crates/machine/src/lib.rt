@@ -1,7 +1,7 @@
 // The instructions, a function for each shape: registers by value, and the buffers that the shape touches lent. Nothing is popped before
 // the precondition is known, and a popped cell is zeroed.
 ghost use mathlib.Core.Path.{_≡_};
-ghost use Prim.Native.Nat.{ℕ, _+_, _-_, _*_, _<_, _≤_};
+ghost use Prim.Native.Nat.{_+_, _<_, _≤_};
 ghost use Rattle.stacks.specs.Stack.{room, stk, Held};
 ghost use Rattle.moore.specs.Objects.{choose};
 ghost use Rattle.scope.specs.Cells.{cell};

@@ -5,26 +5,29 @@ use mathlib.Core.Bool.{Bool, true, false}
 use Prim.Native.Nat.{ℕ, _+_, _≤_}
 use native.Mathlib.Omega.{arith}
 use borrow.Author.Tests.{ne-eqb}
-use lib.Dec.{leb}
+use lib.Dec.{eqb, leb}
 use lib.ListN.{length}
 use Rattle.moore.specs.Objects.{choose}
+use Rattle.moore.specs.Machine.{State}
 use Rattle.scope.specs.declared.Checked.{Checked}
 use Rattle.scope.specs.declared.Checked.the-variants.{Fine, Refused}
 use Rattle.scope.specs.declared.Loaded.{Loaded}
 use Rattle.scope.specs.declared.Registers.{Registers}
-use Rattle.scope.specs.Image.{temps, controlLimit}
+use Rattle.scope.specs.Image.{areas, temps, controlLimit}
 use Rattle.scope.specs.Checks.{test, firstFailing, imageSays}
-use Rattle.scope.specs.Holding.{initial, Holds}
+use Rattle.scope.specs.Holding.{initial, textOf, Holds, Keeps}
 use Rattle.scope.specs.declared.Ran.{Ran}
+use Rattle.scope.specs.declared.Said.{Said}
 use Rattle.scope.specs.States.{StateOk}
-use Rattle.scope.specs.Calls.{StateSays, before, ill-formed, well-formed, runSays, Runs}
+use Rattle.scope.specs.Reach.{Report}
+use Rattle.scope.specs.Calls.{StateSays, before, ill-formed, well-formed, runSays, Runs, reportSays, Reports}
 use Rattle.scope.specs.Calls.{andThen, bufferTests, loadSays, noRegisters, numberOf, placeOf, Same, SameLengths, Loads}
 use Rattle.image.specs.declared.Counts.{Counts}
 use Rattle.image.specs.Laid.{Counted, countsOf}
 use Rattle.accept.proofs.Chain.{counted}
 use Rattle.states.specs.Lengths.{lengthTests, Sized}
 use Rattle.states.specs.Parts.{Decides}
-use Rattle.states.proofs.Lengths.{by-counts, sized}
+use Rattle.states.proofs.Lengths.{by-counts, by-counts-report, report-room, sized}
 use Rattle.piton.specs.Answers.{refusedLoad, refusedRun, answerOfStatus, RanWell}
 
 -- ---- load
@@ -150,3 +153,70 @@ module _ (b : List ℕ) (r : Registers) (d t c : List ℕ) (budget : ℕ) where
       }
 
 pub ruleset runs = (run-bad-image, run-bad-buffer, run-bad-state, run-done)
+
+-- ---- report
+
+module _ (b : List ℕ) (r : Registers) (d t c k : List ℕ) where
+  not-reported : (n p : ℕ) → StateSays (reportSays b (length d) (length t) (length c) (length k)) b r d t c (Refused n p)
+      → Reports b r d t c k (record { answer = n; place = p }) k
+  not-reported n p v =
+      record {
+        said = Refused n p;
+        says = v;
+        answer = refl;
+        place = refl;
+        refused = λ m q w. refl;
+        done = λ w. let z : _≡_ {A = ℕ} 0 1 = cc in absurd (omega arith);
+      }
+
+  pub report-bad-image : (x : Checked) (n p : ℕ) → x ≡ imageSays b → x ≡ Refused n p → Reports b r d t c k (record { answer = n; place = p }) k
+  unfolding reportSays andThen
+  report-bad-image x n p e f = not-reported n p (before (let q : imageSays b ≡ Refused n p = cc in rw q))
+
+  report-by : (m : Counts) (v : Checked) → imageSays b ≡ Fine → Counted b m
+      → v ≡ firstFailing (lengthTests m (length d) (length t) (length c) (test 18 4 (eqb (length k) (m .areas)) ∷ []))
+      → reportSays b (length d) (length t) (length c) (length k) ≡ v
+  unfolding reportSays andThen
+  report-by m v i q e = rw i (sym (by-counts-report b m (length d) (length t) (length c) (length k) v q e))
+
+  pub report-bad-buffer : (m : Counts) (v : Checked) (n p : ℕ) → imageSays b ≡ Fine → m ≡ countsOf b
+      → v ≡ firstFailing (lengthTests m (length d) (length t) (length c) (test 18 4 (eqb (length k) (m .areas)) ∷ []))
+      → v ≡ Refused n p → Reports b r d t c k (record { answer = n; place = p }) k
+  report-bad-buffer m v n p i q e f = not-reported n p (before (report-by m v i (counted b m q) e ∙ f))
+
+  pub report-says : (m : Counts) (v : Checked) → imageSays b ≡ Fine → m ≡ countsOf b
+      → v ≡ firstFailing (lengthTests m (length d) (length t) (length c) (test 18 4 (eqb (length k) (m .areas)) ∷ []))
+      → v ≡ Fine → reportSays b (length d) (length t) (length c) (length k) ≡ Fine
+  report-says m v i q e f = report-by m v i (counted b m q) e ∙ f
+
+  pub report-sized : (m : Counts) (v : Checked) → m ≡ countsOf b
+      → v ≡ firstFailing (lengthTests m (length d) (length t) (length c) (test 18 4 (eqb (length k) (m .areas)) ∷ []))
+      → v ≡ Fine → Sized b d t c
+  report-sized m v q e f =
+      sized b d t c _ v (by-counts-report b m (length d) (length t) (length c) (length k) v (counted b m q) e) f
+
+  pub report-long : (m : Counts) (v : Checked) → m ≡ countsOf b
+      → v ≡ firstFailing (lengthTests m (length d) (length t) (length c) (test 18 4 (eqb (length k) (m .areas)) ∷ []))
+      → v ≡ Fine → length k ≡ m .areas
+  report-long m v q e f =
+      report-room b (length d) (length t) (length c) (length k) v
+      (by-counts-report b m (length d) (length t) (length c) (length k) v (counted b m q) e) f
+      ∙ sym (counted b m q .areas-are)
+
+  pub report-bad-state : (g : Bool) → reportSays b (length d) (length t) (length c) (length k) ≡ Fine → Decides g (StateOk b r d t c)
+      → g ≡ false → Reports b r d t c k (record { answer = 19; place = 0 }) k
+  report-bad-state g v q f = not-reported 19 0 (ill-formed v (q .no f))
+
+  pub report-done : (g : Bool) (k′ : List ℕ) → reportSays b (length d) (length t) (length c) (length k) ≡ Fine → Decides g (StateOk b r d t c)
+      → g ≡ true → ((s : State) → Keeps b r d t c s → Report (textOf b) s k′) → Reports b r d t c k (record { answer = 0; place = 0 }) k′
+  report-done g k′ v q f h =
+      record {
+        said = Fine;
+        says = well-formed v (q .yes f);
+        answer = refl;
+        place = refl;
+        refused = λ m p w. let z : _≡_ {A = ℕ} 0 1 = cc in absurd (omega arith);
+        done = λ w. h;
+      }
+
+pub ruleset reports = (report-bad-image, report-bad-buffer, report-bad-state, report-done)

@@ -1,9 +1,9 @@
-// The face: load and run, exported to C. Every call takes every input.
+// The face: load, run and report, exported to C. Every call takes every input.
 ghost use mathlib.Core.Path.{_≡_};
 ghost use Rattle.scope.specs.declared.Checked.the-variants.{Fine};
 ghost use Rattle.scope.specs.Checks.{imageSays};
 ghost use Rattle.scope.specs.States.{StateOk};
-ghost use Rattle.scope.specs.Calls.{runSays, Loads, Runs};
+ghost use Rattle.scope.specs.Calls.{runSays, reportSays, Loads, Runs, Reports};
 ghost use lib.ListN.{length};
 ghost use Rattle.image.specs.Laid.{Accepted};
 ghost use Rattle.states.specs.Lengths.{Sized};
@@ -15,6 +15,7 @@ use scope::Loaded;
 use scope::ProgramOffset;
 use scope::Ran;
 use scope::Registers;
+use scope::Said;
 
 // ---- load
 
@@ -190,5 +191,79 @@ pub extern "C" fn piton_run(
     match checked {
         Checked::Fine => run_image(image, registers, areas, temporary, control, budget),
         Checked::Refused { answer, place } => refused_run(answer, place, registers),
+    }
+}
+
+// ---- report
+
+// The report on buffers of the right lengths.
+fn reach_sized(
+    image: &[u8],
+    at: Offsets,
+    n: Counts,
+    registers: Registers,
+    areas: &[u8],
+    temporary: &[u8],
+    control: &[u8],
+    report: &mut [u8],
+) -> Said
+    requires { ⌜ Accepted (now image) at n × Sized (now image) (now areas) (now temporary) (now control) × (length (now report) ≡ n .areas)
+        × (reportSays (now image) (length (now areas)) (length (now temporary)) (length (now control)) (length (now report)) ≡ Fine) ⌝ }
+    ensures { λ r. ⌜ Reports (now (image .entry)) registers (now (areas .entry)) (now (temporary .entry)) (now (control .entry))
+        (now (report .entry)) r (now (report .exit)) ⌝ }
+{
+    if states::state_ok(image, at, n, registers, areas, temporary, control) {
+        reach::report(image, at, n, registers, areas, temporary, control, report);
+        Said {
+            answer: 0,
+            place: 0,
+        }
+    } else {
+        Said {
+            answer: 19,
+            place: 0,
+        }
+    }
+}
+
+// The report on an accepted image.
+fn reach_image(
+    image: &[u8],
+    registers: Registers,
+    areas: &[u8],
+    temporary: &[u8],
+    control: &[u8],
+    report: &mut [u8],
+) -> Said
+    requires { ⌜ imageSays (now image) ≡ Fine ⌝ }
+    ensures { λ r. ⌜ Reports (now (image .entry)) registers (now (areas .entry)) (now (temporary .entry)) (now (control .entry))
+        (now (report .entry)) r (now (report .exit)) ⌝ }
+{
+    let n = image::read_counts(image);
+    let at = image::read_offsets(image);
+    let lengths = states::check_report(n, areas.len(), temporary.len(), control.len(), report.len());
+    match lengths {
+        Checked::Fine => reach_sized(image, at, n, registers, areas, temporary, control, report),
+        Checked::Refused { answer, place } => Said { answer, place },
+    }
+}
+
+// Checks image, buffers and state, and writes 1 for each area in reach, 0 for each other.
+#[no_mangle]
+pub extern "C" fn piton_reach(
+    image: &[u8],
+    registers: Registers,
+    areas: &[u8],
+    temporary: &[u8],
+    control: &[u8],
+    report: &mut [u8],
+) -> Said
+    ensures { λ r. ⌜ Reports (now (image .entry)) registers (now (areas .entry)) (now (temporary .entry)) (now (control .entry))
+        (now (report .entry)) r (now (report .exit)) ⌝ }
+{
+    let checked = accept::check(image);
+    match checked {
+        Checked::Fine => reach_image(image, registers, areas, temporary, control, report),
+        Checked::Refused { answer, place } => Said { answer, place },
     }
 }

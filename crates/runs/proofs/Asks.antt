@@ -1,20 +1,18 @@
 -- What a ready state gives the function of each instruction. Assumes nothing.
-use mathlib.Core.Path.{_≡_, refl, sym, ap, _∙_}
+use mathlib.Core.Path.{_≡_, _∙_}
 use mathlib.Core.List.{List}
-use Prim.Native.Nat.{ℕ, _+_, _*_, _/_, _<_, _≤_}
+use Prim.Native.Nat.{ℕ, _+_, _*_, _<_, _≤_}
 use native.Mathlib.Omega.{arith}
-use lib.ListN.{length, getD}
+use lib.ListN.{length}
 use Rattle.scope.specs.declared.Instruction.{Instruction}
 use Rattle.scope.specs.declared.Registers.{Registers}
-use Rattle.scope.specs.Cells.{free}
-use Rattle.scope.specs.Image.{programs, areas, instructions, constants, dataCells, controlLimit, instructionCount, locals, firstInstruction}
+use Rattle.scope.specs.Image.{programs, areas, constants, dataCells, locals}
 use Rattle.scope.specs.Image.{firstCell, instructionOf, kindOf, operandBound}
 use Rattle.cells.proofs.Laws.{length-cells}
 use Rattle.image.specs.declared.Counts.{Counts}
 use Rattle.image.specs.declared.Offsets.{Offsets}
 use Rattle.image.specs.Laid.{Laid}
 use Rattle.stacks.specs.Stack.{room, stk, Held}
-use Rattle.stacks.proofs.Laws.{length-stk}
 use Rattle.machine.specs.Asks.{Poised, Pointing, Callable}
 use Rattle.runs.specs.Sound.{Ready}
 use Rattle.runs.proofs.Formed.{limits, code-in, temps-in, area-in, object-points, operand-in, cases-in}

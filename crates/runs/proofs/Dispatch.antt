@@ -1,20 +1,18 @@
 -- Each arm of the dispatch: what the function of a shape did is what the machine on cells means by the instruction's code. Assumes nothing.
-use mathlib.Core.Path.{_≡_, refl, sym, ap, _∙_}
+use mathlib.Core.Path.{_≡_, ap, _∙_}
 use mathlib.Core.List.{List, [], _∷_}
 use mathlib.Core.Logic.{_⊎_, inl, inr}
 use Prim.Native.Nat.{ℕ, _+_, _<_}
 use borrow.Author.Tests.{ne-eqb}
-use lib.ListN.{getD}
 use types.Run.{OneOf}
 use Rattle.moore.specs.Objects.{choose}
 use Rattle.scope.specs.declared.Cell.{Cell}
 use Rattle.scope.specs.declared.Instruction.{Instruction}
 use Rattle.scope.specs.declared.Registers.{Registers}
-use Rattle.scope.specs.Cells.{cellAt, free}
+use Rattle.scope.specs.Cells.{cellAt}
 use Rattle.scope.specs.Image.{temporaryLimit, firstCell, constantAt}
-use Rattle.cells.specs.Rows.{cells}
 use Rattle.cells.proofs.Laws.{getD-cells}
-use Rattle.stacks.specs.Stack.{room, stk, Held}
+use Rattle.stacks.specs.Stack.{room, Held}
 use Rattle.ops.specs.Ops.{unaryOf, binaryOf, testOf}
 use Rattle.packed.specs.Packed.{Packed, Out, settle, seen, Roomy, sem, calls, returns, pushes, drops}
 use Rattle.machine.specs.Shapes.{unaries, binaries, addAddrIn, fetches, deposits, localStores, dataStores, jumps, tests, cases, passes}

@@ -1,8 +1,8 @@
 -- What an accepted image gives: every record that a step reads is there, and every operand names something that exists. Assumes nothing.
 use mathlib.Core.Path.{_≡_, refl, sym, ap, _∙_}
-use mathlib.Core.List.{List, List·Memᴰ, List·Memᴰ·head, List·Memᴰ·tail}
-use mathlib.Core.Bool.{Bool, true, false, _&&_}
-use Prim.Native.Nat.{ℕ, zero, suc, _+_, _-_, _*_, _<_, _≤_}
+use mathlib.Core.List.{List, List·Memᴰ·head, List·Memᴰ·tail}
+use mathlib.Core.Bool.{Bool, true, false}
+use Prim.Native.Nat.{ℕ, zero, suc, _+_, _-_, _<_, _≤_}
 use native.Mathlib.Omega.{arith}
 use borrow.Author.Tests.{eqb-true, leb-true, ltb-true}
 use lib.Dec.{ltb, leb, eqb}
@@ -12,9 +12,8 @@ use Rattle.scope.specs.declared.Instruction.{Instruction}
 use Rattle.scope.specs.Cells.{rowOf, objectp}
 use Rattle.scope.specs.Image.{word, programs, areas, instructions, constants, dataCells, controlLimit, temporaryLimit, firstInstruction, instructionCount}
 use Rattle.scope.specs.Image.{locals, temps, firstTemp, firstCell, areaLength, instructionOf, kindOf, conditionsOf, operandBound}
-use Rattle.scope.specs.Checks.{Test, range, ranges, sum, programOk, areaOk, boundsOf, casesOk, instructionOk, WellFormed}
+use Rattle.scope.specs.Checks.{range, ranges, sum, programOk, areaOk, boundsOf, casesOk, instructionOk, WellFormed}
 use Rattle.scope.proofs.Bools.{and-both}
-use Rattle.packed.specs.Packed.{placeOf}
 use Rattle.machine.specs.Asks.{Points}
 
 -- ---- records in a row: the first is the sum of earlier counts, and the counts add to the whole

@@ -1,25 +1,21 @@
 -- One step and many: what holds after each turn of the run, and at its end. Assumes nothing.
 use mathlib.Core.Path.{_≡_, refl, sym, ap, _∙_}
 use mathlib.Core.List.{List}
-use mathlib.Core.Bool.{true, false}
 use Prim.Native.Nat.{ℕ, zero, suc, _+_, _<_, _≤_}
 use native.Mathlib.Omega.{arith}
-use native.Mathlib.Decide.{ℕ-discrete}
 use borrow.Author.Count.{below-more}
 use borrow.Author.Tests.{eq-eqb, ne-eqb}
-use lib.ListN.{length}
 use Rattle.moore.specs.Objects.{choose}
 use Rattle.scope.specs.declared.Instruction.{Instruction}
 use Rattle.scope.specs.declared.Registers.{Registers}
-use Rattle.scope.specs.Calls.{SameLengths}
 use Rattle.scope.specs.Image.{programs, instructions, firstInstruction, instructionAt, instructionOf}
 use Rattle.image.specs.declared.Counts.{Counts}
 use Rattle.image.specs.declared.Offsets.{Offsets}
 use Rattle.image.specs.Laid.{Laid}
 use Rattle.packed.specs.Packed.{Packed, seen, settle, sem, step, steps}
 use Rattle.machine.specs.Did.{Did}
-use Rattle.runs.specs.Sound.{Lent, Sound, Ready, Runnable}
-use Rattle.runs.specs.Ran.{Stepped, Going, Count, Ran}
+use Rattle.runs.specs.Sound.{Ready, Runnable}
+use Rattle.runs.specs.Ran.{Stepped, Going, Ran}
 use Rattle.runs.proofs.Formed.{code-in}
 
 -- ---- one step

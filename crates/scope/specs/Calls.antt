@@ -110,12 +110,12 @@ pub record Runs (b : List ℕ) (r : Registers) (d t c : List ℕ) (budget : ℕ)
 
 -- ---- report
 
-pub record Reports (b : List ℕ) (r : Registers) (d t c k : List ℕ) (out : Said) (d′ t′ c′ k′ : List ℕ) : Type 0 where
+-- data and stacks are lent to be read alone; the report k becomes k′
+pub record Reports (b : List ℕ) (r : Registers) (d t c k : List ℕ) (out : Said) (k′ : List ℕ) : Type 0 where
   pub said : Checked
   pub says : StateSays (reportSays b (length d) (length t) (length c) (length k)) b r d t c said
   pub answer : out .answer ≡ numberOf said
   pub place : out .place ≡ placeOf said
-  pub same : Same d t c d′ t′ c′
   pub refused : (n p : ℕ) → said ≡ Refused n p → k′ ≡ k
   pub done : said ≡ Fine → (s : State) → Keeps b r d t c s → Report (textOf b) s k′
 

@@ -92,3 +92,7 @@ pub bottom-room : (b : List ℕ) (d t c : ℕ) (v : Checked)
     → v ≡ firstFailing (bufferTests b d t c (test 18 3 (leb (2 + temps b 0) (controlLimit b)) ∷ [])) → v ≡ Fine → 2 + temps b 0 ≤ controlLimit b
 bottom-room b d t c v e f =
     leb-true (2 + temps b 0) (controlLimit b) (head-fine _ 18 3 [] (three-held b d t c _ v e f .3) .0)
+
+pub report-room : (b : List ℕ) (d t c k : ℕ) (v : Checked) → v ≡ firstFailing (bufferTests b d t c (test 18 4 (eqb k (areas b)) ∷ [])) → v ≡ Fine
+    → k ≡ areas b
+report-room b d t c k v e f = eqb-true k (areas b) (head-fine _ 18 4 [] (three-held b d t c _ v e f .3) .0)

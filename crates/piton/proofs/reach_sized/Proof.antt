@@ -1,0 +1,27 @@
+use Rattle.piton.proofs.Laws.{reports}
+use borrow.Author.Needs.{needs}
+use Rattle.piton.proofs.reach_sized.Statement.{statement}
+use Rattle.piton.proofs.reach_sized.Tie as tie
+use Rattle.piton.proofs.reach_sized.Reads as reads
+use Rattle.piton.proofs.reach_sized.Lts as lts
+use Rattle.reach.proofs.report.Reads as report-reads
+use Rattle.states.proofs.state_ok.Reads as state-ok-reads
+
+state-ok-requires : tie.Need-state-ok-requires
+state-ok-requires c κs = search needs
+
+report-requires : tie.Need-report-requires
+report-requires c κs = (search, search, c .before .before .state-ok .ensures .yes (c .before .if1 .taken), search)
+
+same-length : tie.Need-same-length
+same-length c = search needs
+
+returns : tie.Need-returns
+returns c = search reports
+
+returns-2 : tie.Need-returns-2
+returns-2 c = search reports
+
+pub reach-sized-spec : {M : Type 1} → statement M
+reach-sized-spec =
+    tie.close (tie.spec state-ok-requires report-requires same-length returns returns-2)

@@ -241,7 +241,13 @@ fn reach_image(
 {
     let n = image::read_counts(image);
     let at = image::read_offsets(image);
-    let lengths = states::check_report(n, areas.len(), temporary.len(), control.len(), report.len());
+    let lengths = states::check_report(
+        n,
+        areas.len(),
+        temporary.len(),
+        control.len(),
+        report.len(),
+    );
     match lengths {
         Checked::Fine => reach_sized(image, at, n, registers, areas, temporary, control, report),
         Checked::Refused { answer, place } => Said { answer, place },

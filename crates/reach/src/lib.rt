@@ -120,7 +120,7 @@ fn clear(marks: &mut [u8])
     }
 }
 
-// What is named, of whatever the marks were.
+// What is named and nothing else, whatever the bytes were.
 fn mark_named(
     image: &[u8],
     at: Offsets,

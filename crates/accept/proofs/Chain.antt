@@ -1,8 +1,8 @@
 -- One number after the other: checks in a row, and what a check that passed gives the next.
 use mathlib.Core.Path.{_≡_, refl, sym, ap, _∙_}
 use mathlib.Core.List.{List, [], _∷_, _++_}
-use mathlib.Core.Bool.{Bool, true, false, _&&_}
-use Prim.Native.Nat.{ℕ, zero, suc, _+_, _-_, _*_, _<_, _≤_}
+use mathlib.Core.Bool.{true, _&&_}
+use Prim.Native.Nat.{ℕ, zero, suc, _+_, _<_, _≤_}
 use native.Mathlib.Omega.{arith}
 use native.Mathlib.Nat.{zero-add}
 use borrow.Author.Count.{below-more}
@@ -12,12 +12,12 @@ use lib.ListN.{length}
 use Rattle.moore.specs.Objects.{choose}
 use Rattle.scope.specs.declared.Checked.{Checked}
 use Rattle.scope.specs.declared.Checked.the-variants.{Fine, Refused}
-use Rattle.scope.specs.Image.{word, programs, instructions, constants, dataCells, constantAt, dataCellAt, firstInstruction, instructionCount}
+use Rattle.scope.specs.Image.{word, programs, instructions, constants, dataCells, constantAt, firstInstruction, instructionCount}
 use Rattle.scope.specs.Cells.{objectp}
-use Rattle.scope.specs.Checks.{Test, test, firstFailing, tab, concat, sum, ranges, sections, programOk, programTests, boundsOf, cellTests, codeTests}
+use Rattle.scope.specs.Checks.{Test, test, firstFailing, tab, sum, ranges, sections, programOk, programTests, boundsOf, cellTests, codeTests}
 use Rattle.scope.specs.Checks.{allInstructions, lengthOk, imageTests, imageSays}
-use Rattle.scope.specs.Calls.{andThen}
 use Rattle.scope.proofs.Bools.{and-both}
+use Rattle.scope.proofs.Formed.{sum-part}
 use Rattle.scope.proofs.Tests.{head-fine, append-fine, tab-fine, concat-over, concat-stop}
 use Rattle.image.specs.declared.Counts.{Counts}
 use Rattle.image.specs.declared.Offsets.{Offsets}
@@ -100,14 +100,6 @@ counted b n e =
 
 -- ---- 14
 
--- a sum of more is no less
-sum-more : (f : ℕ → ℕ) (m d : ℕ) → sum f m ≤ sum f (m + d)
-sum-more f m zero = let e : m + 0 ≡ m = omega arith in rw e (omega arith)
-sum-more f m (suc d) = let e : m + suc d ≡ suc (m + d) = omega arith in rw e (omega (arith, sum-more f m d))
-
-sum-later : (f : ℕ → ℕ) (m n : ℕ) → m ≤ n → sum f m ≤ sum f n
-sum-later f m n l = let e : n ≡ m + (n - m) = omega arith in rw e (sum-more f m (n - m))
-
 pub placed : (b : List ℕ) (x : Checked) → x ≡ firstFailing (programTests b) → x ≡ Fine → Ranged b → Placed b
 unfolding programTests programOk
 placed b x e f r = record { lie = lie; few = r .instructions .1 }
@@ -122,7 +114,7 @@ placed b x e f r = record { lie = lie; few = r .instructions .1 }
     lie p l =
         let q = tab-fine (λ p. test 14 p (programOk b p)) (programs b) (t .0) p l in
         let first : firstInstruction b p ≡ sum (instructionCount b) p = eqb-true _ _ (and-both (eqb (firstInstruction b p) (sum (instructionCount b) p)) _ q .0) in
-        omega (arith, all, first, sum-later (instructionCount b) (suc p) (programs b) l)
+        omega (arith, all, first, sum-part (instructionCount b) (programs b) p l)
 
 -- ---- 16
 

@@ -1,21 +1,19 @@
 -- Laws of the check of an instruction.
 use mathlib.Core.Path.{_≡_, refl, sym, ap, subst, _∙_}
-use mathlib.Core.List.{List, [], _∷_, _++_}
+use mathlib.Core.List.{List, [], _∷_}
 use mathlib.Core.Bool.{Bool, true, false, _&&_, _||_}
-use Prim.Native.Nat.{ℕ, zero, suc, _+_, _-_, _*_, _<_, _≤_}
+use Prim.Native.Nat.{ℕ, zero, suc, _+_, _-_, _<_, _≤_}
 use native.Mathlib.Omega.{arith}
 use borrow.Author.Tests.{eqb-true, le-leb, lt-leb, eq-eqb, ne-eqb, lt-ltb, le-ltb}
 use lib.Dec.{eqb, ltb, leb}
 use native.Mathlib.Decide.{decLt, ℕ-discrete}
 use lib.ListN.{length, getD, set, length-set, List·getD-eq-default}
 use lib.Seq.{getD-set-same, getD-set-other}
-use Rattle.moore.specs.Objects.{choose}
 use Rattle.scope.specs.declared.Cell.{Cell}
 use Rattle.scope.specs.declared.Instruction.{Instruction}
-use Rattle.scope.specs.declared.Checked.{Checked}
 use Rattle.scope.specs.declared.Checked.the-variants.{Fine, Refused}
-use Rattle.scope.specs.Image.{constants, constantAt, instructionAt, firstInstruction, instructionCount, operandBound, kindOf}
-use Rattle.scope.specs.Checks.{Test, test, tab, concat, firstFailing, everyCase, casesOk, ends, instructionOk, codeTests}
+use Rattle.scope.specs.Image.{constants, constantAt, instructionAt, operandBound, kindOf}
+use Rattle.scope.specs.Checks.{firstFailing, everyCase, ends, instructionOk, codeTests}
 use Rattle.scope.proofs.Bools.{clash, and-both, and-le, and-gt, clauses}
 use Rattle.image.specs.declared.Counts.{Counts}
 use Rattle.image.specs.Laid.{Counted}

@@ -4,17 +4,16 @@ use mathlib.Core.Path.{_≡_, refl, sym, ap, _∙_}
 use mathlib.Core.List.{List, [], _∷_, _++_, append-nil, List·Memᴰ, List·Memᴰ·head, List·Memᴰ·tail, List·Memᴰ·not-nil, List·Memᴰ·cases-cons}
 use mathlib.Core.Logic.{⊎-elim}
 use mathlib.Core.Bool.{Bool, true, false}
-use Prim.Native.Nat.{ℕ, zero, suc, _+_, _<_, _≤_}
+use Prim.Native.Nat.{ℕ, _+_, _<_, _≤_}
 use native.Mathlib.Omega.{arith}
 use borrow.Author.Tests.{leb-true, eqb-true}
 use lib.Dec.{leb, eqb}
 use lib.ListN.{length}
 use Rattle.moore.specs.Objects.{choose}
-use Rattle.scope.specs.declared.Checked.{Checked}
 use Rattle.scope.specs.declared.Checked.the-variants.{Fine, Refused}
 use Rattle.scope.specs.Image.{word, programs, areas, constants, dataCells, constantAt, dataCellAt, firstInstruction, instructionCount}
 use Rattle.scope.specs.Cells.{objectp}
-use Rattle.scope.specs.Checks.{Test, test, firstFailing, tab, concat, ranges, sections, programOk, programTests, areaOk, areaTests, boundsOf}
+use Rattle.scope.specs.Checks.{Test, test, firstFailing, tab, ranges, sections, programOk, programTests, areaOk, areaTests, boundsOf}
 use Rattle.scope.specs.Checks.{cellTests, codeTests, instructionOk, lengthOk, allInstructions, allCells, imageTests, imageSays, WellFormed}
 use Rattle.scope.proofs.Tests.{head-fine, append-fine, tab-fine, tab-over, then-fine, concat-over, concat-fine}
 use Rattle.accept.proofs.Chain.{ranged, joined, laid, counted}

@@ -1,16 +1,13 @@
 -- Header words and program records, by the numbers that were read.
-use mathlib.Core.Path.{_≡_, refl, sym, ap, _∙_}
-use mathlib.Core.List.{List, [], _∷_, _++_}
-use mathlib.Core.Bool.{Bool, true, false, _&&_}
-use Prim.Native.Nat.{ℕ, zero, suc, _+_, _*_, _<_, _≤_}
-use native.Mathlib.Omega.{arith}
+use mathlib.Core.Path.{_≡_, _∙_}
+use mathlib.Core.List.{List, [], _∷_}
+use mathlib.Core.Bool.{Bool, false, _&&_}
+use Prim.Native.Nat.{ℕ, _+_, _*_, _<_, _≤_}
 use borrow.Author.Tests.{le-leb, lt-leb}
-use lib.Dec.{leb, eqb}
-use Rattle.moore.specs.Objects.{choose}
+use lib.Dec.{leb}
 use Rattle.scope.specs.declared.Checked.{Checked}
-use Rattle.scope.specs.declared.Checked.the-variants.{Fine, Refused}
-use Rattle.scope.specs.Image.{word, instructionCount, programField}
-use Rattle.scope.specs.Checks.{Test, test, required, firstFailing, sections, sum, programOk}
+use Rattle.scope.specs.Image.{instructionCount, programField}
+use Rattle.scope.specs.Checks.{Test, required, firstFailing, sections, sum, programOk}
 use Rattle.image.specs.declared.Counts.{Counts}
 use Rattle.image.specs.Laid.{Counted}
 use Rattle.accept.specs.Facts.{fieldsOk}

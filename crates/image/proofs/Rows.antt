@@ -1,14 +1,14 @@
 -- The rows of the table of objects, case by case, as rules for `search`.
-use mathlib.Core.Path.{_≡_, refl, sym, ap, _∙_}
+use mathlib.Core.Path.{_≡_}
 use mathlib.Core.List.{List}
-use mathlib.Core.Bool.{Bool, true, false, _&&_}
+use mathlib.Core.Bool.{Bool, false, _&&_}
 use Prim.Native.Nat.{ℕ, _<_, _≤_}
 use native.Mathlib.Omega.{arith}
 use borrow.Author.Tests.{lt-ltb, le-ltb, eq-eqb, ne-eqb}
 use lib.Dec.{ltb, eqb}
 use Rattle.moore.specs.Objects.{choose}
 use Rattle.scope.specs.declared.Cell.{Cell}
-use Rattle.scope.specs.Cells.{Bounds, rowOf, objectp}
+use Rattle.scope.specs.Cells.{rowOf, objectp}
 use Rattle.scope.specs.Image.{programs, areas, areaField, programField, areaLength, instructionCount}
 use Rattle.scope.specs.Checks.{boundsOf}
 use Rattle.image.specs.declared.Counts.{Counts}

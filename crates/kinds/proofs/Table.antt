@@ -1,6 +1,6 @@
 -- A rule of a table, proved at all of its entries by one test that the checker computes, one entry after the other.
-use mathlib.Core.Path.{_≡_, subst, sym}
-use mathlib.Core.Bool.{Bool, true, false, _&&_}
+use mathlib.Core.Path.{_≡_, subst}
+use mathlib.Core.Bool.{Bool, true, _&&_}
 use mathlib.Core.List.{List, [], _∷_}
 use Prim.Native.Nat.{ℕ, zero, suc, _+_, _<_}
 use native.Mathlib.Omega.{arith}

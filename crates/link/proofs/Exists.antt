@@ -20,15 +20,15 @@ use Rattle.scope.specs.Checks.{tab, sum, boundsOf, WellFormed}
 use Rattle.scope.specs.States.{Frames, bottom, above, Objects, StateOk}
 use Rattle.scope.specs.Holding.{object, constantOf, textOf, initial, baseOf, controlWords, dataWords, statusOf, errorOf, lengthsOf, Proper}
 use Rattle.cells.specs.Rows.{cells, Bytes}
-use Rattle.cells.proofs.Tabs.{length-tab, tab-snoc}
+use Rattle.scope.proofs.Tabs.{length-tab, tab-snoc, map-tab, tab-same, tab-append, all-tab}
 use Rattle.cells.proofs.Laws.{length-cells, cells-none, fit-cell, fit-from}
 use Rattle.stacks.specs.Stack.{room, stk}
 use Rattle.stacks.proofs.Laws.{length-stk}
 use Rattle.link.specs.Pack.{Lent, Kept}
-use Rattle.link.proofs.Lists.{map-tab, tab-same, tab-append, all-tab}
-use Rattle.link.proofs.Objects.{Good, pc-in, cell-object, object-legal}
+use Rattle.scope.proofs.Objects.{pc-in, cell-object}
+use Rattle.link.proofs.Objects.{Good, object-legal}
 use Rattle.link.proofs.Held.{length-words, Sees, sees-holds}
-use Rattle.link.proofs.Images.{some-program, all-cells, area-first, area-in, program-starts, temp-in, no-formals}
+use Rattle.scope.proofs.Formed.{some-program, all-cells, area-first, area-in, program-starts, temps-in, no-formals}
 use Rattle.link.proofs.Texts.{count-is, locals-are, bounded, constant-legal, code-is}
 
 -- the areas one behind the other, one more at the end
@@ -67,7 +67,7 @@ psw-of (suc (suc (suc n))) err code l e = absurd (omega arith)
 
 module _ (b : List ℕ) (w : WellFormed b) (y : Bytes b) where
   back : (c : Cell) → Good (boundsOf b) c → cellOf (object c) ≡ c
-  back c g = cell-object (boundsOf b) c (g .1) (g .0)
+  back c g = cell-object (boundsOf b) c (g .1 .value) (g .0)
 
   -- ---- areas
 
@@ -131,7 +131,7 @@ module _ (b : List ℕ) (w : WellFormed b) (y : Bytes b) where
             many = omega (arith, locals-are b 0 p, no-formals b w);
             objects =
                 all-tab (ProperObj (textOf b) D) first (temps b 0)
-                (λ k l. constant-legal b w y D z (firstTemp b 0 + k) (temp-in b w 0 p k l));
+                (λ k l. constant-legal b w y D z (firstTemp b 0 + k) (omega (arith, temps-in b w 0 p)));
           },
           refl,
           refl,

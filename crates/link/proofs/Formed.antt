@@ -25,9 +25,10 @@ use Rattle.stacks.proofs.Laws.{reverse-stk}
 use Rattle.packed.specs.Packed.{Packed}
 use Rattle.link.specs.Pack.{Lent}
 use Rattle.link.proofs.Lists.{all-mapped}
-use Rattle.link.proofs.Objects.{Good, is-nat, is-pc, passes, object-passes, object-fits}
+use Rattle.scope.proofs.Objects.{is-nat, is-pc, passes}
+use Rattle.link.proofs.Objects.{Good, object-passes, object-fits}
 use Rattle.link.proofs.Held.{length-words, Fitting, Sees, holds-sees}
-use Rattle.link.proofs.Images.{some-program, few-programs, few-words, program-starts, program-brief}
+use Rattle.scope.proofs.Formed.{some-program, few-programs, few-words, program-starts, program-brief}
 use Rattle.link.proofs.Texts.{locals-are, bounded, in-text, code-is}
 
 module _ (b : List ℕ) (w : WellFormed b) (y : Bytes b) where

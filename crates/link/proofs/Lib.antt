@@ -1,7 +1,6 @@
 pub mod Objects
 pub mod Lists
 pub mod Held
-pub mod Images
 pub mod Texts
 pub mod Shapes
 pub mod Areas

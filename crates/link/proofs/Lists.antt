@@ -1,11 +1,10 @@
--- Laws of `map`, `set`, `tab` and `All` on lists. Assumes nothing.
-use mathlib.Core.Path.{_≡_, refl, ap, _∙_}
+-- Laws of `map`, `set` and `All` on lists. Assumes nothing.
+use mathlib.Core.Path.{_≡_, refl, ap}
 use mathlib.Core.List.{List, [], _∷_, _++_, map, reverse, reverseAux}
 use Prim.Native.Nat.{ℕ, zero, suc, _+_, _<_}
 use native.Mathlib.Omega.{arith}
 use lib.ListN.{length, getD, set, take, drop}
 use Rattle.moore.specs.Proper.{All}
-use Rattle.scope.specs.Checks.{tab}
 
 module _ {A B : Type 0} (f : A → B) where
   pub map-append : (l r : List A) → map f (l ++ r) ≡ map f l ++ map f r
@@ -39,10 +38,6 @@ module _ {A B : Type 0} (f : A → B) where
   map-get (a ∷ l) zero d e h = refl
   map-get (a ∷ l) (suc i) d e h = map-get l i d e (omega arith)
 
-  pub map-tab : (g : ℕ → A) (n : ℕ) → map f (tab g n) ≡ tab (λ i. f (g i)) n
-  map-tab g zero = refl
-  map-tab g (suc n) = ap (λ (y : List B). f (g 0) ∷ y) (map-tab (λ i. g (suc i)) n)
-
 module _ {A : Type 0} where
   pub set-append : (l r : List A) (n : ℕ) (a : A) → set (l ++ r) (length l + n) a ≡ l ++ set r n a
   set-append [] r n a = let e : 0 + n ≡ n = omega arith in rw e
@@ -50,25 +45,7 @@ module _ {A : Type 0} where
       let e : length (b ∷ l) + n ≡ suc (length l + n) = omega arith in
       rw e (ap (λ (y : List A). b ∷ y) (set-append l r n a))
 
-  pub tab-same : (f g : ℕ → A) (n : ℕ) → ((i : ℕ) → i < n → f i ≡ g i) → tab f n ≡ tab g n
-  tab-same f g zero h = refl
-  tab-same f g (suc n) h =
-      rw (h 0 (omega arith), tab-same (λ i. f (suc i)) (λ i. g (suc i)) n (λ i l. h (suc i) (omega arith)))
-
-  pub tab-append : (f : ℕ → A) (n k : ℕ) → tab f (n + k) ≡ tab f n ++ tab (λ i. f (n + i)) k
-  tab-append f zero k = let e : 0 + k ≡ k = omega arith in rw e (tab-same f (λ i. f (0 + i)) k (λ i l. let z : 0 + i ≡ i = omega arith in rw z))
-  tab-append f (suc n) k =
-      let e : suc n + k ≡ suc (n + k) = omega arith in
-      rw e (ap (λ (y : List A). f 0 ∷ y)
-      (tab-append (λ i. f (suc i)) n k
-      ∙ ap (λ (y : List A). tab (λ i. f (suc i)) n ++ y)
-      (tab-same (λ i. f (suc (n + i))) (λ i. f (suc n + i)) k (λ i l. let z : suc n + i ≡ suc (n + i) = omega arith in rw z))))
-
 -- ---- what holds of every element
-
-pub all-tab : {A : Type 0} (Q : A → Type 0) (f : ℕ → A) (n : ℕ) → ((i : ℕ) → i < n → Q (f i)) → All Q (tab f n)
-all-tab Q f zero h = tt
-all-tab Q f (suc n) h = (h 0 (omega arith), all-tab Q (λ i. f (suc i)) n (λ i l. h (suc i) (omega arith)))
 
 pub all-mapped : {A B : Type 0} (Q : A → Type 0) (R : B → Type 0) (f : A → B) → ((a : A) → Q a → R (f a)) → (l : List A) → All Q l → All R (map f l)
 all-mapped Q R f g [] h = tt

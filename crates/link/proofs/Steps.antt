@@ -26,7 +26,7 @@ use Rattle.scope.specs.Image.{temporaryLimit, instructionOf, kindOf, operandBou
 use Rattle.scope.specs.Checks.{tab, boundsOf, casesOk, WellFormed}
 use Rattle.scope.specs.Holding.{baseOf, controlWords, dataWords, statusOf, errorOf, constantOf, insList, initialTemps, textOf, lengthsOf, Proper}
 use Rattle.cells.specs.Rows.{Bytes}
-use Rattle.cells.proofs.Tabs.{length-tab, getD-tab}
+use Rattle.scope.proofs.Tabs.{length-tab, getD-tab}
 use Rattle.ops.specs.declared.Made.the-variants.{Is, No}
 use Rattle.ops.specs.declared.Chosen.the-variants as C
 use Rattle.ops.specs.Ops.{addAddr, binaryOf, unaryOf, testOf, choiceOf}
@@ -39,7 +39,7 @@ use Rattle.link.specs.Pack.{packAs, pack}
 use Rattle.link.proofs.Lists.{map-append, map-reverse, map-take, map-drop, AllAt, done, _&_}
 use Rattle.link.proofs.Objects.{in-area}
 use Rattle.link.proofs.Held.{length-words}
-use Rattle.link.proofs.Images.{Operands, area-first, area-some, live, operands}
+use Rattle.scope.proofs.Formed.{Operands, area-first, area-some, live, operands}
 use Rattle.link.proofs.Texts.{program-is, ins-is, by-table, code-is, constant-is, temps-cells, case-place}
 use Rattle.link.proofs.Texts.{length-in, bounded, in-text, locals-are, text-proper}
 use Rattle.link.proofs.Shapes.{words-get, ends-in, comes-to, running, settles, needs-is, pushes-is, drops-is, binary-comes, unary-comes}

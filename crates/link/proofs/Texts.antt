@@ -10,7 +10,8 @@ use lib.ListN.{length, getD, List·getD-eq-default, List·getD-map}
 use borrow.Author.Tests.{leb-true}
 use Rattle.moore.specs.Objects.{Obj, offset, choose}
 use Rattle.moore.specs.Machine.{Ins, ret, Program, program, area, codeOf, insAt}
-use Rattle.moore.specs.Proper.{All, count, locals, ProperObj, ProperIns, ends, ProperText}
+use Rattle.moore.specs.Proper.{All, count, locals, ProperObj}
+use Rattle.moore.proofs.Texts.{ProperIns, ends, ProperText}
 use Rattle.scope.specs.declared.Cell.{Cell}
 use Rattle.scope.specs.declared.Instruction.{Instruction}
 use Rattle.scope.specs.Cells.{cellOf, cellFrom, objectOf}
@@ -22,13 +23,14 @@ use Rattle.scope.specs.Checks.{tab, boundsOf, everyCase, casesOk, WellFormed}
 use Rattle.scope.specs.Holding.{constantOf, insList, insOf, initialTemps, programOf, textOf, lengthsOf}
 use Rattle.scope.proofs.Bools.{and-both}
 use Rattle.cells.specs.Rows.{cellsFrom, Bytes}
-use Rattle.cells.proofs.Tabs.{length-tab, getD-tab}
+use Rattle.scope.proofs.Tabs.{length-tab, getD-tab, map-tab, tab-same, all-tab}
 use Rattle.cells.proofs.Laws.{fit-from}
 use Rattle.packed.specs.Packed.{tempCells}
-use Rattle.link.proofs.Lists.{map-tab, tab-same, all-tab, AllAt, done, _&_, at-number}
-use Rattle.link.proofs.Objects.{Bounded, pc-in, in-program, cell-object, object-legal}
-use Rattle.link.proofs.Images.{Operands, case-at, few-programs, few-areas, few-words, few-temporary, area-some, area-short}
-use Rattle.link.proofs.Images.{program-brief, program-starts, temp-in, live, operands, last}
+use Rattle.link.proofs.Lists.{AllAt, done, _&_, at-number}
+use Rattle.scope.proofs.Objects.{pc-in, cell-object}
+use Rattle.link.proofs.Objects.{Bounded, in-program, object-legal}
+use Rattle.scope.proofs.Formed.{Operands, case-at, few-programs, few-areas, few-words, few-temporary, area-some, area-short}
+use Rattle.scope.proofs.Formed.{program-brief, program-starts, temps-in, live, operands, last}
 
 -- ---- programs
 
@@ -91,7 +93,7 @@ module _ (b : List ℕ) where
 
 module _ (b : List ℕ) (w : WellFormed b) (y : Bytes b) where
   pub constant-is : (k : ℕ) → k < constants b → cellOf (constantOf b k) ≡ constantAt b k
-  constant-is k l = cell-object (boundsOf b) (constantAt b k) (fit-from b (word b 9 + 8 * k) y) (w .every-constant k l)
+  constant-is k l = cell-object (boundsOf b) (constantAt b k) (fit-from b (word b 9 + 8 * k) y .value) (w .every-constant k l)
 
   pub temps-cells : (p : ℕ) → p < programs b → map cellOf (initialTemps b p) ≡ tempCells b p
   unfolding tempCells cellsFrom
@@ -100,7 +102,7 @@ module _ (b : List ℕ) (w : WellFormed b) (y : Bytes b) where
       ∙ tab-same (λ (k : ℕ). cellOf (constantOf b (firstTemp b p + k))) (λ (k : ℕ). cellFrom b (word b 9 + 8 * firstTemp b p + 8 * k)) (temps b p)
       (λ k h.
       let e : word b 9 + 8 * (firstTemp b p + k) ≡ word b 9 + 8 * firstTemp b p + 8 * k = omega arith in
-      constant-is (firstTemp b p + k) (temp-in b w p l k h) ∙ ap (λ (at : ℕ). cellFrom b at) e)
+      constant-is (firstTemp b p + k) (omega (arith, temps-in b w p l)) ∙ ap (λ (at : ℕ). cellFrom b at) e)
 
   -- JUMP-CASE: a case's place
   pc-offset : (c : Cell) → c .tag ≡ 6 → offset (objectOf 32 c) ≡ c .value
@@ -221,7 +223,7 @@ module _ (b : List ℕ) (w : WellFormed b) (y : Bytes b) where
     temps-legal p (yes l) =
         rw (temps-are b p l)
         (all-tab (ProperObj (textOf b) d) (λ (k : ℕ). constantOf b (firstTemp b p + k)) (temps b p)
-        (λ k h. constant-legal (firstTemp b p + k) (temp-in b w p l k h)))
+        (λ k h. constant-legal (firstTemp b p + k) (omega (arith, temps-in b w p l))))
     temps-legal p (no l) = rw (no-program b p (omega arith)) tt
 
     -- the text of a well-formed image is proper

@@ -7,7 +7,8 @@ use native.Mathlib.Omega.{arith}
 use lib.ListN.{length}
 use Rattle.moore.specs.Objects.{Obj}
 use Rattle.moore.specs.Machine.{Frame, State, run, p-step1, p-step, P, insAt}
-use Rattle.moore.specs.Proper.{All, ProperObj, ProperText, ProperFrames}
+use Rattle.moore.specs.Proper.{All, ProperObj, ProperFrames}
+use Rattle.moore.proofs.Texts.{ProperText}
 use Rattle.moore.proofs.Lists.{all-map}
 use Rattle.moore.proofs.Proper.{proper-steps}
 use Rattle.scope.specs.declared.Registers.{Registers}

@@ -20,7 +20,8 @@ use Rattle.moore.specs.Machine.{add1-nat, sub-nat, sub1-nat, lt-nat, or-
 use Rattle.moore.specs.Machine.{Psw, run, halt, error, program, top, top1, ctrl-size, local-value, set-local-value, call-frame}
 use Rattle.moore.specs.Machine.{area, fetch-adp, deposit-adp, p-objectp, p-objectp-type, roomy, has, onward, go, goto, p-halt, p-return}
 use Rattle.moore.specs.Machine.{p-ins-okp, p-ins-step, codeOf, p-settle, p-step1, insAt, p-step-by, p-step, P}
-use Rattle.moore.specs.Proper.{All, count, ProperObj, ProperIns, ends, ProperText, ProperFrame, ProperFrames, ProperState}
+use Rattle.moore.specs.Proper.{All, count, ProperObj, ProperFrame, ProperFrames, ProperState}
+use Rattle.moore.proofs.Texts.{ProperIns, ends, ProperText}
 use Rattle.moore.proofs.Lists.{all-drop, all-take, all-append, all-reverse, all-set, all-getD, all-inside, all-map}
 use Rattle.moore.proofs.Objects.{clause, clause-one, clause-two, typed, type-only, a-nat, an-int, an-addr, legal-none}
 use Rattle.moore.proofs.Objects.{area-lengths, legal-lengths}

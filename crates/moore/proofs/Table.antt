@@ -1,9 +1,8 @@
 -- Document 01's table of single steps ("Proved together"), computed by the definitions.
 use mathlib.Core.Path.{_≡_, refl}
 use mathlib.Core.List.{List, [], _∷_}
-use Prim.Native.Nat.{ℕ}
-use lib.IntN.{ℤ, pos, negsuc}
-use Rattle.moore.specs.Objects.{Obj, nat, int, bool, addr, choose}
+use lib.IntN.{pos, negsuc}
+use Rattle.moore.specs.Objects.{Obj, nat, int, addr, choose}
 use Rattle.moore.specs.Machine.{Ins, ret, jump-case, eq, add-addr, sub-addr, neg-int, int-to-nat, add-nat, sub-nat, sub1-nat}
 use Rattle.moore.specs.Machine.{Text, State, Psw, run, halt, error, program, insAt, p-objectp, p-objectp-type, need, p-return}
 use Rattle.moore.specs.Machine.{p-ins-okp, p-ins-step, p-settle, p-step1, p-step-by, p-step}

@@ -3,7 +3,7 @@
 use mathlib.Core.Path.{_≡_, refl, sym, ap, _∙_}
 use mathlib.Core.List.{List, [], _∷_}
 use mathlib.Core.Bool.{Bool, true, false, _&&_, Bool·beq}
-use Prim.Native.Nat.{ℕ, suc, _+_, _-_, _^_, _<_, _≤_}
+use Prim.Native.Nat.{ℕ, _+_, _-_, _^_, _<_, _≤_}
 use native.Mathlib.Omega.{arith}
 use lib.Dec.{eqb}
 use lib.ListN.{length}
@@ -14,6 +14,7 @@ use Rattle.moore.specs.Objects.{Obj, nat, int, bitv, bool, addr, pc, subr, NAT,
 use Rattle.moore.specs.Objects.{area-name, offset, equalBits, equal, choose}
 use Rattle.moore.specs.Machine.{Text, State, p-objectp, p-objectp-type}
 use Rattle.scope.specs.Cells.{wordOf, bitsValue, cellOf}
+use Rattle.scope.proofs.Objects.{bits-lt}
 use Rattle.ops.specs.Ops.{truth}
 use Rattle.ops.proofs.MooreInts.{eqb-iff, eq-word}
 
@@ -98,15 +99,6 @@ module _ (m : Text) (s : State) (x : Obj) (h : p-objectp x m (s .areas) ≡ true
       omega (arith, ltb-true (mag (intOf x)) (2 ^ (m .word-size - 1)) p)
 
 -- ---- equal cells
-
-pub doubled : (k : ℕ) → 2 ^ suc k ≡ 2 ^ k + 2 ^ k
-doubled k = omega arith
-
-pub bits-lt : (b : List Bool) → bitsValue b < 2 ^ length b
-unfolding choose
-bits-lt [] = omega arith
-bits-lt (true ∷ b) = rw (doubled (length b)) (omega (arith, bits-lt b))
-bits-lt (false ∷ b) = rw (doubled (length b)) (omega (arith, bits-lt b))
 
 eq-bit : (x y : Bool) (p u v : ℕ) → u < p → v < p → eqb (choose x p 0 + u) (choose y p 0 + v) ≡ Bool·beq x y && eqb u v
 unfolding choose

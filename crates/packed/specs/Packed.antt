@@ -1,9 +1,8 @@
 -- The machine on cells, between Moore's machine and the code: the terms in which functions are proved. Nothing here has to be believed.
 -- b is the image's bytes; a state's control words stand lowest first, its temporary cells top first.
-use mathlib.Core.Path.{_≡_}
 use mathlib.Core.List.{List, [], _∷_, _++_, reverse}
 use mathlib.Core.Bool.{Bool, true, false, _||_}
-use Prim.Native.Nat.{ℕ, zero, suc, _+_, _*_, _<_, _≤_}
+use Prim.Native.Nat.{ℕ, zero, suc, _+_, _*_}
 use lib.Dec.{ltb, leb, eqb}
 use lib.ListN.{length, getD, set, take, drop}
 use Rattle.moore.specs.Objects.{choose}

@@ -1,14 +1,13 @@
 -- Rounds of marking: each marks what its marks lead to, and one that finds nothing new has found all. Assumes nothing.
 use mathlib.Core.Path.{_≡_, refl, subst, _∙_}
 use mathlib.Core.List.{List}
-use mathlib.Core.Logic.{_⊎_, ⊎-elim}
+use mathlib.Core.Logic.{⊎-elim}
 use Prim.Native.Nat.{ℕ, _+_, _-_, _*_, _<_, _≤_}
 use native.Mathlib.Omega.{arith}
 use native.Mathlib.Decide.{ℕ-discrete, decLt}
 use lib.ListN.{length, getD, List·getD-eq-default}
 use Rattle.scope.specs.Image.{areas, dataCells, areaField}
-use Rattle.states.proofs.Formed.{cell-place}
-use Rattle.link.proofs.Images.{area-some}
+use Rattle.scope.proofs.Formed.{area-some, area-in}
 use Rattle.reach.specs.Marks.{Points, Edge, Comes, named, along, Marked, Bits, Marking, Ready, unmarked, Union, Next, Round, Exactly, Data}
 use Rattle.reach.proofs.Laws.{fresh-none, fresh-more, union-same, union-as}
 use Rattle.reach.proofs.Parts.{objects-ready}
@@ -24,7 +23,7 @@ module _ (b d m : List ℕ) (a : ℕ) (k : Data b d) (g : Marking b m) (l : a < 
 
   module _ (first many : ℕ) (ef : first ≡ areaField b a 0) (em : many ≡ areaField b a 1) where
     cell-in : (j : ℕ) → j < many → first + j < dataCells b
-    cell-in j h = omega (arith, cell-place b (k .formed) a j there (omega arith))
+    cell-in j h = omega (arith, area-in b (k .formed) a j there (omega arith))
 
     -- no area is empty
     pub area-inside : 8 * first + 8 * many ≤ length d

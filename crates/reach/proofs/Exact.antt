@@ -16,16 +16,15 @@ use Rattle.scope.specs.Checks.{tab, boundsOf, WellFormed}
 use Rattle.scope.specs.Holding.{constantOf, insOf, textOf, controlWords, dataWords, Keeps}
 use Rattle.scope.specs.Reach.{Global, Named, by-operand, by-constant, by-temporary, by-control, Leads, lies, Chain, starts, goes-on, InReach, Report}
 use Rattle.cells.specs.Rows.{cells, Bytes}
-use Rattle.cells.proofs.Tabs.{length-tab, is-tab}
+use Rattle.scope.proofs.Tabs.{length-tab, is-tab, map-tab, tab-same}
 use Rattle.cells.proofs.Laws.{getD-cells}
 use Rattle.stacks.specs.Stack.{room}
 use Rattle.stacks.proofs.Laws.{reverse-stk}
 use Rattle.packed.specs.Packed.{Packed}
 use Rattle.states.specs.Lengths.{Sized}
-use Rattle.states.proofs.Formed.{code-place, first-cell, cell-place}
-use Rattle.link.proofs.Lists.{map-reverse, map-tab, tab-same, map-get}
+use Rattle.link.proofs.Lists.{map-reverse, map-get}
 use Rattle.link.proofs.Objects.{in-area}
-use Rattle.link.proofs.Images.{live}
+use Rattle.scope.proofs.Formed.{area-first, area-in, code-in, live}
 use Rattle.link.proofs.Texts.{ins-is, constant-is, length-in, bounded, in-text}
 use Rattle.link.proofs.Areas.{start, start-sum, data-get}
 use Rattle.link.proofs.Held.{Sees, holds-sees}
@@ -85,10 +84,10 @@ module _ (b : List ℕ) (w : WellFormed b) (y : Bytes b) where
 
     area-at : (a j : ℕ) → a < areas b → j < areaLength b a → cellFrom d (8 * firstCell b a + 8 * j) ≡ cellOf (getD (area D a) j none)
     area-at a j l h =
-        let i : firstCell b a + j < room d = omega (arith, cell-place b w a j l h, z .areas) in
+        let i : firstCell b a + j < room d = omega (arith, area-in b w a j l h, z .areas) in
         let e : 8 * firstCell b a + 8 * j ≡ 8 * (firstCell b a + j) = omega arith in
         let f : firstCell b a + j ≡ start D a + j =
-        ap (λ (x : ℕ). x + j) (first-cell b w a l ∙ start-sum (areaLength b) D (areas b) area-long a (omega arith)) in
+        ap (λ (x : ℕ). x + j) (area-first b w a l ∙ start-sum (areaLength b) D (areas b) area-long a (omega arith)) in
         ap (λ (at : ℕ). cellFrom d at) e
         ∙ sym (getD-cells (room d) (firstCell b a + j) d i)
         ∙ ap (λ (p : Packed). getD (p .areas) (firstCell b a + j) free) (seen .cells)
@@ -129,7 +128,7 @@ module _ (b : List ℕ) (w : WellFormed b) (y : Bytes b) where
         let v = live b w p o (l .0) (l .1) in
         record {
           place = firstInstruction b p + o;
-          high = code-place b w p o (l .0) (l .1);
+          high = omega (arith, code-in b w p (l .0), l .1);
           here = global-operand b (instructionOf b p o) a (v .0) (v .1) (subst (λ (j : Ins). Global j a) (ins-is b p (l .0) o (l .1)) g);
         }
     global-uses p o a g (no h) =

@@ -3,7 +3,7 @@ use mathlib.Core.Path.{_≡_, refl, sym, ap, subst, _∙_}
 use mathlib.Core.List.{List, [], _∷_, map, reverse, reverse-reverse, List·Memᴰ, List·Memᴰ·head, List·Memᴰ·tail, List·Memᴰ·not-nil}
 use mathlib.Core.List.{List·Memᴰ·append-cases, Memᴰ·append-left, Memᴰ·append-right, Memᴰ·cast, Memᴰ·map, Memᴰ·of-map}
 use mathlib.Core.Logic.{_⊎_, inl, inr}
-use Prim.Native.Nat.{ℕ, zero, suc, _-_, _<_, _≤_}
+use Prim.Native.Nat.{ℕ, zero, suc, _<_, _≤_}
 use native.Mathlib.Omega.{arith}
 use lib.ListN.{length, getD}
 use Rattle.moore.specs.Objects.{Obj, nat, int, bitv, bool, addr, pc, subr}

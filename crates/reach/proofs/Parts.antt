@@ -18,8 +18,7 @@ use Rattle.scope.proofs.Bools.{and-both, or-either}
 use Rattle.image.specs.declared.Counts.{Counts}
 use Rattle.image.specs.declared.Offsets.{Offsets}
 use Rattle.image.specs.Laid.{Accepted}
-use Rattle.states.proofs.Formed.{first-instruction}
-use Rattle.link.proofs.Images.{operands}
+use Rattle.scope.proofs.Formed.{first-instruction, operands}
 use Rattle.reach.specs.Marks.{global, Points, Uses, InText, InStacks, Marking, Ready, Added, Union}
 use Rattle.reach.specs.Marks.{Stacks}
 use Rattle.reach.proofs.Laws.{both, ready-on}

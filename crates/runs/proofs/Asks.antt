@@ -15,7 +15,8 @@ use Rattle.image.specs.Laid.{Laid}
 use Rattle.stacks.specs.Stack.{room, stk, Held}
 use Rattle.machine.specs.Asks.{Poised, Pointing, Callable}
 use Rattle.runs.specs.Sound.{Ready}
-use Rattle.runs.proofs.Formed.{limits, code-in, temps-in, area-in, object-points, operand-in, cases-in}
+use Rattle.scope.proofs.Formed.{few-words, few-temporary, code-in, temps-in, area-in, area-some}
+use Rattle.runs.proofs.Formed.{object-points, operand-in, cases-in}
 
 module _ (b : List ℕ) (at : Offsets) (n : Counts) (r : Registers) (d t c : List ℕ) (y : Ready b at n r d t c) where
   pub asks-place : r .offset .0 < 65536
@@ -35,7 +36,7 @@ module _ (b : List ℕ) (at : Offsets) (n : Counts) (r : Registers) (d t c : Lis
   pub asks-push : Poised r t × (n .temporary ≤ room t) × (n .temporary < 65536)
   asks-push =
       let k = y .accepted .counted .temporary-is in
-      (asks-poised, omega (arith, k, y .lent .temporary), omega (arith, k, limits b (y .accepted .formed) .1))
+      (asks-poised, omega (arith, k, y .lent .temporary), omega (arith, k, few-temporary b (y .accepted .formed)))
 
   pointing : Pointing b (stk t (r .temporary))
   pointing = record { every = λ i l. object-points b (y .accepted .formed) _ (y .sound .objects i l) }
@@ -82,7 +83,7 @@ module _ (b : List ℕ) (at : Offsets) (n : Counts) (r : Registers) (d t c : Lis
           held = y .roomy .control;
           limit-is = m;
           within = omega (arith, m, y .lent .control);
-          small = omega (arith, m, limits b (y .accepted .formed) .0);
+          small = omega (arith, m, few-words b (y .accepted .formed));
           name = omega (arith, y .sound .program, l .programs-in, l .small);
         }
 
@@ -109,7 +110,7 @@ module _ (b : List ℕ) (at : Offsets) (n : Counts) (r : Registers) (d t c : Lis
 
       module _ (p : ℕ) (q : p ≡ firstCell b (i .a)) where
         pub cell-in : p < room d
-        cell-in = let h = area-in b (y .accepted .formed) (i .a) (an-area k) in omega (arith, q, h .0, h .1, data-room)
+        cell-in = let f = y .accepted .formed in omega (arith, q, area-in b f (i .a) 0 (an-area k) (area-some b f (i .a) (an-area k)), data-room)
 
         pub asks-cell : 8 * p + 8 ≤ length d
         asks-cell = omega (arith, cell-in)

@@ -16,7 +16,7 @@ use Rattle.packed.specs.Packed.{Packed, seen, settle, sem, step, steps}
 use Rattle.machine.specs.Did.{Did}
 use Rattle.runs.specs.Sound.{Ready, Runnable}
 use Rattle.runs.specs.Ran.{Stepped, Going, Ran}
-use Rattle.runs.proofs.Formed.{code-in}
+use Rattle.scope.proofs.Formed.{code-in}
 
 -- ---- one step
 

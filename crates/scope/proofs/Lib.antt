@@ -1,3 +1,6 @@
 pub mod Bools
 pub mod Tests
 pub mod Worked
+pub mod Objects
+pub mod Tabs
+pub mod Formed

@@ -1,6 +1,6 @@
 -- The programs and the p-state that an image means, and how registers and buffers hold a p-state (01, "State and well-formedness").
 use mathlib.Core.List.{List, [], _∷_, _++_, map, reverse}
-use Prim.Native.Nat.{ℕ, _+_, _-_, zero, suc, _*_}
+use Prim.Native.Nat.{ℕ, _+_, _-_, zero, suc}
 use lib.ListN.{getD, length}
 use Rattle.moore.specs.Objects.{Obj, offset}
 use Rattle.moore.specs.Machine.{Ins, call, ret, push-constant, push-local, push-global, pop, pop*, pop-local, pop-global, set-local}

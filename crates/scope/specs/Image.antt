@@ -1,6 +1,6 @@
 -- An image's header and records (01, "The image"): "The image is read through its header's offsets wherever a record is wanted."
 use mathlib.Core.List.{List, [], _∷_}
-use Prim.Native.Nat.{ℕ, zero, suc, _+_, _*_}
+use Prim.Native.Nat.{ℕ, zero, _+_, _*_}
 use lib.ListN.{getD}
 use Rattle.scope.specs.declared.Cell.{Cell}
 use Rattle.scope.specs.declared.Instruction.{Instruction}

@@ -13,7 +13,7 @@ use Rattle.scope.specs.Checks.{boundsOf}
 use Rattle.scope.specs.States.{Frames, bottom, above}
 use Rattle.scope.proofs.Bools.{clash, and-both, and-eq, and-ne}
 use Rattle.states.specs.Parts.{Decides, AllObjects, frameOk, Down}
-use Rattle.states.proofs.Objects.{cell-ext, object-nat, object-pc, object-program}
+use Rattle.scope.proofs.Objects.{cell-ext, nat-is, pc-is, pc-in}
 use Rattle.states.proofs.Rooms.{fails}
 
 -- ---- one frame, by what was read of it
@@ -128,9 +128,9 @@ module _ (b c : List ℕ) (p end : ℕ) where
         let k = frame-parts b c p 0 end g e t in
         let l : 1 < end = omega (arith, k .0) in
         let back : cellAt c 0 ≡ cell 6 0 0 =
-        cell-ext (cellAt c 0) (cell 6 0 0) (k .1) (ap (λ (q : Cell). q .zero) (object-pc b (cellAt c 0) (o .each 0 (omega arith)) (k .1)))
+        cell-ext (cellAt c 0) (cell 6 0 0) (k .1) (ap (λ (q : Cell). q .zero) (pc-is (boundsOf b) (cellAt c 0) (o .each 0 (omega arith)) (k .1)))
         (sym (ap (λ (q : Cell). q .name) ex) ∙ n) (sym (ap (λ (q : Cell). q .value) ex) ∙ v) in
-        let caller : cellAt c 1 ≡ cell 1 0 (cellAt c 1 .value) = object-nat b (cellAt c 1) (o .each 1 l) (k .2) in
+        let caller : cellAt c 1 ≡ cell 1 0 (cellAt c 1 .value) = nat-is (boundsOf b) (cellAt c 1) (o .each 1 l) (k .2) in
         record {
           yes = λ h.
               let w : cellAt c 1 .value ≡ 0 = sym (ap (λ (q : Cell). q .value) ey) ∙ eqb-true (y .value) 0 h in
@@ -158,14 +158,15 @@ module _ (b c : List ℕ) (program base used p from end : ℕ) (w : Down b c pro
 
     module _ (o : AllObjects b c used) (l : 0 < from) (t : g ≡ true) where
       lower : Down b c program base used (cellAt c from .name) (cellAt c (from + 1) .value) from
+      unfolding boundsOf
       lower =
           let k = frame-parts b c p from end g e t in
           let first : objectp (boundsOf b) (cellAt c from) ≡ true = o .each from (omega (arith, k .0, w .within)) in
           let second : objectp (boundsOf b) (cellAt c (from + 1)) ≡ true = o .each (from + 1) (omega (arith, k .0, w .within)) in
           record {
             forth = λ f. at-above b c (w .forth f) l;
-            back = λ f. w .back (above _ _ _ (k .0) (object-pc b (cellAt c from) first (k .1)) (object-nat b (cellAt c (from + 1)) second (k .2)) f);
-            named = object-program b (cellAt c from) first (k .1) .0;
+            back = λ f. w .back (above _ _ _ (k .0) (pc-is (boundsOf b) (cellAt c from) first (k .1)) (nat-is (boundsOf b) (cellAt c (from + 1)) second (k .2)) f);
+            named = pc-in (boundsOf b) (cellAt c from) first (k .1) .0;
             within = omega (arith, k .0, w .within);
           }
 

@@ -1,19 +1,18 @@
 -- The tests of the buffers' lengths: one test at a time, and by counts that were read. Assumes nothing.
 use mathlib.Core.Path.{_≡_, refl, sym, _∙_}
-use mathlib.Core.List.{List, [], _∷_, _++_}
-use mathlib.Core.Bool.{Bool, true, false}
+use mathlib.Core.List.{List, [], _∷_}
+use mathlib.Core.Bool.{true, false}
 use Prim.Native.Nat.{ℕ, _+_, _*_, _/_, _%_, _<_, _≤_}
 use native.Mathlib.Omega.{arith}
 use native.Mathlib.Decide.{ℕ-discrete}
 use borrow.Author.Tests.{eq-eqb, ne-eqb, le-leb, lt-leb, eqb-true, leb-true}
 use lib.Dec.{eqb, leb}
 use lib.ListN.{length}
-use Rattle.moore.specs.Objects.{choose}
 use Rattle.scope.specs.declared.Checked.{Checked}
 use Rattle.scope.specs.declared.Checked.the-variants.{Fine, Refused}
 use Rattle.scope.specs.Image.{programField, temps, areas, dataCells, controlLimit, temporaryLimit}
 use Rattle.scope.specs.Checks.{Test, test, firstFailing}
-use Rattle.scope.specs.Calls.{andThen, bufferTests}
+use Rattle.scope.specs.Calls.{bufferTests}
 use Rattle.scope.proofs.Tests.{tests, pass, fail, none-left, then-fine, then-refused, head-fine}
 use Rattle.image.specs.declared.Counts.{Counts}
 use Rattle.image.specs.Laid.{Counted}

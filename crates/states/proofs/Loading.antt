@@ -12,11 +12,11 @@ use Rattle.scope.specs.declared.Cell.{Cell}
 use Rattle.scope.specs.Cells.{cellFrom, cell, cellOf}
 use Rattle.scope.specs.Image.{word, areas, constants, dataCells, controlLimit, programField, temps, firstTemp, firstCell, areaLength}
 use Rattle.scope.specs.Image.{constantAt, dataCellAt}
-use Rattle.scope.specs.Checks.{tab, sum, WellFormed}
+use Rattle.scope.specs.Checks.{tab, sum, boundsOf, WellFormed}
 use Rattle.scope.specs.Holding.{object, constantOf, initialTemps, areaOf, initial, inBytes, buffer, controlWords, dataWords, Holds}
 use Rattle.scope.specs.Calls.{SameLengths}
 use Rattle.cells.specs.Rows.{cells, cellsFrom, Bytes}
-use Rattle.cells.proofs.Tabs.{length-tab, tab-snoc}
+use Rattle.scope.proofs.Tabs.{length-tab, tab-snoc, map-tab, tab-same, tab-append}
 use Rattle.cells.proofs.Laws.{cells-none, fit-from}
 use Rattle.cells.proofs.Buffers.{inBytes-cells}
 use Rattle.stacks.specs.Stack.{room, stk, Became, Words}
@@ -25,20 +25,8 @@ use Rattle.image.specs.declared.Offsets.{Offsets}
 use Rattle.image.specs.declared.Counts.{Counts}
 use Rattle.image.specs.Laid.{Laid, Accepted}
 use Rattle.states.specs.Loaded.{Cleared, AreasLoaded, BottomLoaded}
-use Rattle.states.proofs.Formed.{some-program, first-cell, cell-place, temps-place}
-use Rattle.states.proofs.Objects.{object-cell}
-
--- ---- tables
-
-map-tab : {X Y : Type 0} (g : X → Y) (f : ℕ → X) (h : ℕ → Y) (n : ℕ) → ((i : ℕ) → i < n → g (f i) ≡ h i) → map g (tab f n) ≡ tab h n
-map-tab g f h zero e = refl
-map-tab g f h (suc n) e = rw (e 0 (omega arith), map-tab g (λ i. f (suc i)) (λ i. h (suc i)) n (λ i l. e (suc i) (omega arith)))
-
-tab-append : {X : Type 0} (f : ℕ → X) (m n : ℕ) → tab f (m + n) ≡ tab f m ++ tab (λ i. f (m + i)) n
-tab-append f m zero = let e : m + 0 ≡ m = omega arith in rw e (sym (append-nil (tab f m)))
-tab-append {X} f m (suc n) =
-    let e : m + suc n ≡ suc (m + n) = omega arith in
-    rw (e, tab-snoc f (m + n), tab-append f m n, tab-snoc (λ i. f (m + i)) n) (append-assoc (tab f m) (tab (λ i. f (m + i)) n) (f (m + n) ∷ []))
+use Rattle.scope.proofs.Formed.{some-program, area-first, area-in, temps-in}
+use Rattle.scope.proofs.Objects.{cell-object}
 
 -- ---- the data
 
@@ -49,10 +37,12 @@ data-snoc (y ∷ l) x = ap (λ (z : List Cell). map cellOf y ++ z) (data-snoc l 
 module _ (b : List ℕ) (w : WellFormed b) (y : Bytes b) where
   area-words : (a : ℕ) → a < areas b → map cellOf (areaOf b a) ≡ tab (λ k. dataCellAt b (sum (areaLength b) a + k)) (areaLength b a)
   area-words a l =
-      map-tab cellOf (λ k. object (dataCellAt b (firstCell b a + k))) (λ k. dataCellAt b (sum (areaLength b) a + k)) (areaLength b a)
+      map-tab cellOf (λ k. object (dataCellAt b (firstCell b a + k))) (areaLength b a)
+      ∙ tab-same (λ k. cellOf (object (dataCellAt b (firstCell b a + k)))) (λ k. dataCellAt b (sum (areaLength b) a + k)) (areaLength b a)
       (λ k h.
-      object-cell b (dataCellAt b (firstCell b a + k)) (w .every-cell (firstCell b a + k) (cell-place b w a k l h)) (fit-from b (word b 10 + 8 * (firstCell b a + k)) y)
-      ∙ ap (λ (s : ℕ). dataCellAt b (s + k)) (first-cell b w a l))
+      cell-object (boundsOf b) (dataCellAt b (firstCell b a + k)) (fit-from b (word b 10 + 8 * (firstCell b a + k)) y .value)
+      (w .every-cell (firstCell b a + k) (area-in b w a k l h))
+      ∙ ap (λ (s : ℕ). dataCellAt b (s + k)) (area-first b w a l))
 
   data-words : (a : ℕ) → a ≤ areas b → dataWords (tab (areaOf b) a) ≡ tab (dataCellAt b) (sum (areaLength b) a)
   data-words zero l = refl
@@ -75,12 +65,12 @@ module _ (b : List ℕ) (w : WellFormed b) (y : Bytes b) where
   temp-words : map cellOf (initialTemps b 0) ≡ cellsFrom b (word b 9 + 8 * firstTemp b 0) (temps b 0)
   unfolding cellsFrom
   temp-words =
-      map-tab cellOf (λ k. constantOf b (firstTemp b 0 + k)) (λ k. cellFrom b (word b 9 + 8 * firstTemp b 0 + 8 * k)) (temps b 0)
+      map-tab cellOf (λ k. constantOf b (firstTemp b 0 + k)) (temps b 0)
+      ∙ tab-same (λ k. cellOf (constantOf b (firstTemp b 0 + k))) (λ k. cellFrom b (word b 9 + 8 * firstTemp b 0 + 8 * k)) (temps b 0)
       (λ k h.
       let e : word b 9 + 8 * (firstTemp b 0 + k) ≡ word b 9 + 8 * firstTemp b 0 + 8 * k = omega arith in
-      object-cell b (constantAt b (firstTemp b 0 + k))
-      (w .every-constant (firstTemp b 0 + k) (omega (arith, temps-place b w 0 (some-program b w))))
-      (fit-from b (word b 9 + 8 * (firstTemp b 0 + k)) y)
+      cell-object (boundsOf b) (constantAt b (firstTemp b 0 + k)) (fit-from b (word b 9 + 8 * (firstTemp b 0 + k)) y .value)
+      (w .every-constant (firstTemp b 0 + k) (omega (arith, temps-in b w 0 (some-program b w))))
       ∙ ap (λ (at : ℕ). cellFrom b at) e)
 
   pub initial-control : controlWords (initial b .ctrl) ≡ (cell 6 0 0 ∷ cell 1 0 0 ∷ []) ++ cellsFrom b (word b 9 + 8 * firstTemp b 0) (temps b 0)
@@ -120,8 +110,8 @@ module _ (b : List ℕ) (at : Offsets) (n : Counts) (a : Accepted b at n) where
       }
 
 module _ (b : List ℕ) (at : Offsets) (laid : Laid b at) (formed : WellFormed b) (first t : ℕ) (ef : first ≡ programField b 0 4) (et : t ≡ programField b 0 3) where
-  pub temps-in : at .constants + 8 * first + 8 * t ≤ length b
-  temps-in = omega (arith, temps-place b formed 0 (some-program b formed), laid .constants-in)
+  pub initial-in : at .constants + 8 * first + 8 * t ≤ length b
+  initial-in = omega (arith, temps-in b formed 0 (some-program b formed), laid .constants-in)
 
   module _ (x e : List ℕ) (l : length x ≡ 8 * controlLimit b) (p : Words x e 2 (cell 6 0 0 ∷ cell 1 0 0 ∷ [])) where
     pub temps-room : 2 + temps b 0 ≤ controlLimit b → 2 + t ≤ room e
@@ -164,4 +154,4 @@ holds-initial b d t c d′ t′ c′ words p q r =
       control = r .filled;
     }
 
-pub ruleset loading = (cleared, areas-loaded, temps-in, temps-room, bottom-loaded, linked, lengths-kept, holds-initial, arith)
+pub ruleset loading = (cleared, areas-loaded, initial-in, temps-room, bottom-loaded, linked, lengths-kept, holds-initial, arith)

@@ -11,13 +11,13 @@ use Rattle.scope.specs.declared.Instruction.{Instruction}
 use Rattle.scope.specs.Image.{programs, instructions, instructionCount, programField, instructionAt, instructionOf}
 use Rattle.scope.specs.Checks.{WellFormed}
 use Rattle.scope.proofs.Bools.{and-both, and-le, and-gt}
-use Rattle.states.proofs.Formed.{code-place}
+use Rattle.scope.proofs.Formed as F
 
 -- ---- the code at pc
 
 module _ (b : List ℕ) (p o first : ℕ) (e : first ≡ programField b p 0) where
   pub code-in : WellFormed b → p < programs b → o < instructionCount b p → first + o < instructions b
-  code-in w l h = rw e (code-place b w p o l h)
+  code-in w l h = rw e (omega (arith, F.code-in b w p l))
 
   pub code-is : (i : Instruction) → i ≡ instructionAt b (first + o) → i .code ≡ instructionOf b p o .code
   code-is i q = rw (q, e)

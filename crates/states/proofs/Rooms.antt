@@ -11,7 +11,7 @@ use Rattle.scope.specs.declared.Cell.{Cell}
 use Rattle.scope.specs.Cells.{cellAt, free, objectp}
 use Rattle.scope.specs.Checks.{boundsOf}
 use Rattle.scope.proofs.Bools.{clash, and-both}
-use Rattle.states.proofs.Objects.{cell-ext}
+use Rattle.scope.proofs.Objects.{cell-ext}
 use Rattle.states.specs.Parts.{Decides, AllObjects, AllFree, Stack, isFree}
 
 -- ---- a flag that tells whether P holds

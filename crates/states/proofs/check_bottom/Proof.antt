@@ -1,6 +1,6 @@
 -- `states::check_bottom` meets its contract: the one test of place 3, by counts that were read. Assumes nothing.
 use borrow.Author.Needs.{needs}
-use Rattle.states.proofs.Formed.{some-program}
+use Rattle.scope.proofs.Formed.{some-program}
 use Rattle.states.proofs.Lengths.{lengths}
 use Rattle.states.proofs.check_bottom.Statement.{statement}
 use Rattle.states.proofs.check_bottom.Tie as tie

@@ -1,6 +1,6 @@
 -- `states::load_bottom` meets its contract: the temps' constants are the cells of their objects. Assumes nothing.
 use borrow.Author.Needs.{needs}
-use Rattle.states.proofs.Formed.{some-program}
+use Rattle.scope.proofs.Formed.{some-program}
 use Rattle.states.proofs.Loading.{loading}
 use Rattle.states.proofs.load_bottom.Statement.{statement}
 use Rattle.states.proofs.load_bottom.Tie as tie

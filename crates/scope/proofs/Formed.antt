@@ -1,21 +1,22 @@
--- What a well-formed image's checks give, as numbers: ranges, records and the operands of each instruction. Assumes nothing.
+-- What a well-formed image gives, as numbers: ranges, sections, records and the operands of each instruction. Assumes nothing.
 use mathlib.Core.Path.{_≡_, refl, sym, _∙_}
 use mathlib.Core.List.{List, [], _∷_, List·Memᴰ, List·Memᴰ·head, List·Memᴰ·tail}
 use mathlib.Core.Bool.{Bool, true, false, _&&_, _||_}
 use mathlib.Core.Logic.{_⊎_, inl, inr}
-use Prim.Native.Nat.{ℕ, zero, suc, _+_, _<_, _≤_}
+use Prim.Native.Nat.{ℕ, zero, suc, _+_, _*_, _<_, _≤_}
 use native.Mathlib.Omega.{arith}
 use native.Mathlib.Decide.{decLt, ℕ-discrete}
 use lib.Dec.{ltb, leb, eqb}
 use lib.ListN.{List·getD-eq-default}
 use borrow.Author.Tests.{ltb-true, leb-true, eqb-true, eq-eqb, ne-eqb}
 use Rattle.moore.specs.Objects.{choose}
 use Rattle.scope.specs.declared.Instruction.{Instruction}
 use Rattle.scope.specs.Image.{word, programs, areas, instructions, constants, dataCells, controlLimit, temporaryLimit, programField}
 use Rattle.scope.specs.Image.{firstInstruction, instructionCount, formals, temps, firstTemp, locals, firstCell, areaLength, instructionOf}
 use Rattle.scope.specs.Image.{constantAt, kindOf, conditionsOf, operandBound}
-use Rattle.scope.specs.Checks.{range, ranges, sum, programOk, areaOk, everyCase, casesOk, ends, instructionOk, WellFormed}
+use Rattle.scope.specs.Checks.{headerBytes, range, ranges, required, sections, sum, programOk, areaOk, everyCase, casesOk, ends, instructionOk}
+use Rattle.scope.specs.Checks.{WellFormed}
 use Rattle.scope.proofs.Bools.{and-both, or-either, choose-yes, choose-no}
 
 -- a part of a sum
 pub sum-part : (f : ℕ → ℕ) (n i : ℕ) → i < n → sum f i + f i ≤ sum f n
@@ -106,6 +107,46 @@ module _ (b : List ℕ) (w : WellFormed b) where
       in-range 12 0 1024
       (List·Memᴰ·tail (List·Memᴰ·tail (List·Memᴰ·tail (List·Memᴰ·tail (List·Memᴰ·tail (List·Memᴰ·tail (List·Memᴰ·head refl))))))) .1
 
+  -- ---- sections, one behind the other
+
+  at : (k n : ℕ) → List·Memᴰ (required b k n) (sections b) → word b k ≡ n
+  at k n h = eqb-true (word b k) n (w .every-section (required b k n) h)
+
+  pub programs-at : word b 6 ≡ headerBytes
+  unfolding sections
+  programs-at = at 6 headerBytes (List·Memᴰ·tail (List·Memᴰ·head refl))
+
+  pub areas-at : word b 7 ≡ word b 6 + 12 * programs b
+  unfolding sections
+  areas-at = omega (arith, at 7 _ (List·Memᴰ·tail (List·Memᴰ·tail (List·Memᴰ·head refl))), programs-at)
+
+  pub instructions-at : word b 8 ≡ word b 7 + 4 * areas b
+  unfolding sections
+  instructions-at = omega (arith, at 8 _ (List·Memᴰ·tail (List·Memᴰ·tail (List·Memᴰ·tail (List·Memᴰ·head refl)))), areas-at, programs-at)
+
+  pub constants-at : word b 9 ≡ word b 8 + 8 * instructions b
+  unfolding sections
+  constants-at =
+      omega (
+        arith,
+        at 9 _ (List·Memᴰ·tail (List·Memᴰ·tail (List·Memᴰ·tail (List·Memᴰ·tail (List·Memᴰ·head refl))))),
+        instructions-at,
+        areas-at,
+        programs-at,
+      )
+
+  pub cells-at : word b 10 ≡ word b 9 + 8 * constants b
+  unfolding sections
+  cells-at =
+      omega (
+        arith,
+        at 10 _ (List·Memᴰ·tail (List·Memᴰ·tail (List·Memᴰ·tail (List·Memᴰ·tail (List·Memᴰ·tail (List·Memᴰ·head refl)))))),
+        constants-at,
+        instructions-at,
+        areas-at,
+        programs-at,
+      )
+
   -- ---- areas
 
   pub all-cells : sum (areaLength b) (areas b) ≡ dataCells b
@@ -131,28 +172,35 @@ module _ (b : List ℕ) (w : WellFormed b) where
 
   -- ---- programs
 
-  pub program-brief : (p : ℕ) → p < programs b → instructionCount b p ≤ 2048
-  program-brief p l =
+  pub first-instruction : (p : ℕ) → p < programs b → firstInstruction b p ≡ sum (instructionCount b) p
+  unfolding programOk
+  first-instruction p l = eqb-true _ _ (and-both _ _ (w .every-program p l) .0)
+
+  pub code-in : (p : ℕ) → p < programs b → firstInstruction b p + instructionCount b p ≤ instructions b
+  code-in p l =
       omega (
         arith,
+        first-instruction p l,
         sum-part (instructionCount b) (programs b) p l,
         eqb-true (sum (instructionCount b) (programs b)) (instructions b) (w .all-instructions),
-        few-instructions,
       )
+
+  pub program-brief : (p : ℕ) → p < programs b → instructionCount b p ≤ 2048
+  program-brief p l = omega (arith, code-in p l, few-instructions)
 
   -- the clauses of a program record, one after the other
   module _ (p : ℕ) (l : p < programs b) where
     abbrev first-is : Bool
     first-is = eqb (firstInstruction b p) (sum (instructionCount b) p)
 
-    abbrev temps-in : Bool
-    temps-in = choose (eqb (temps b p) 0) (eqb (firstTemp b p) 0) (leb (firstTemp b p + temps b p) (constants b))
+    abbrev temps-kept : Bool
+    temps-kept = choose (eqb (temps b p) 0) (eqb (firstTemp b p) 0) (leb (firstTemp b p + temps b p) (constants b))
 
     abbrev main-in : Bool
     main-in = choose (eqb p 0) (eqb (formals b p) 0) true
 
     abbrev from-temps : Bool
-    from-temps = temps-in && (main-in && eqb (programField b p 5) 0)
+    from-temps = temps-kept && (main-in && eqb (programField b p 5) 0)
 
     after-first : leb 1 (instructionCount b p) && (leb (locals b p) 256 && from-temps) ≡ true
     unfolding programOk
@@ -166,15 +214,15 @@ module _ (b : List ℕ) (w : WellFormed b) where
         and-both (leb (locals b p) 256) from-temps
         (and-both (leb 1 (instructionCount b p)) (leb (locals b p) 256 && from-temps) after-first .1) .1
 
-    pub temp-in : (k : ℕ) → k < temps b p → firstTemp b p + k < constants b
-    temp-in k h =
-        let e = and-both temps-in (main-in && eqb (programField b p 5) 0) after-locals .0 in
-        let some : eqb (temps b p) 0 ≡ false = ne-eqb (temps b p) 0 (λ q. omega arith) in
-        let c = choose-no (eqb (temps b p) 0) (eqb (firstTemp b p) 0) (leb (firstTemp b p + temps b p) (constants b)) some in
-        omega (arith, leb-true (firstTemp b p + temps b p) (constants b) (sym c ∙ e))
+    pub temps-in : firstTemp b p + temps b p ≤ constants b
+    temps-in = by (ℕ-discrete (temps b p) 0) (and-both temps-kept (main-in && eqb (programField b p 5) 0) after-locals .0)
+      where
+        by : Dec (temps b p ≡ 0) → temps-kept ≡ true → firstTemp b p + temps b p ≤ constants b
+        by (yes e) h = omega (arith, eqb-true (firstTemp b p) 0 (sym (choose-yes _ _ _ (eq-eqb (temps b p) 0 e)) ∙ h))
+        by (no e) h = leb-true (firstTemp b p + temps b p) (constants b) (sym (choose-no _ _ _ (ne-eqb (temps b p) 0 e)) ∙ h)
 
     main-formals : main-in ≡ true
-    main-formals = and-both main-in (eqb (programField b p 5) 0) (and-both temps-in (main-in && eqb (programField b p 5) 0) after-locals .1) .0
+    main-formals = and-both main-in (eqb (programField b p 5) 0) (and-both temps-kept (main-in && eqb (programField b p 5) 0) after-locals .1) .0
 
   -- program 0 has no formals
   pub no-formals : formals b 0 ≡ 0
@@ -232,3 +280,16 @@ module _ (b : List ℕ) (w : WellFormed b) where
         by : (ltb (o + 1) (instructionCount b p) ≡ true) ⊎ (ends (i .code) ≡ true) → o + 1 < instructionCount b p
         by (inl q) = ltb-true (o + 1) (instructionCount b p) q
         by (inr q) = let z : _≡_ {A = ℕ} 0 1 = cc in absurd (omega arith)
+
+    -- PUSH-CONSTANT
+    pub constant-in : i .code ≡ 3 → i .a < constants b
+    unfolding kindOf operandBound
+    constant-in e = rw e at (operands .bound)
+
+    -- JUMP-CASE: "constants a to a+b−1"
+    pub cases-below : i .code ≡ 13 → i .a + i .b ≤ constants b
+    unfolding kindOf casesOk
+    cases-below e =
+        let h = operands .cases (rw e) in
+        let q = and-both (leb 1 (i .b)) (leb (i .a + i .b) (constants b) && everyCase b p (i .a) (i .b)) h in
+        leb-true (i .a + i .b) (constants b) (and-both (leb (i .a + i .b) (constants b)) (everyCase b p (i .a) (i .b)) (q .1) .0)

@@ -1,9 +1,8 @@
 /* A server over the library, for tests that are not linked with it: calls come in on standard input,
    and what each said goes out on standard output with every byte that was lent.
 
-   All numbers are u32, little-endian. First the bridge writes four: for load, run, reach and step 1 if
-   the library has that call, else 0. Then it reads batches and answers each when it has all of it. A
-   batch is its length in bytes, then
+   All numbers are u32, little-endian. The bridge reads batches and answers each when it has all of it.
+   A batch is its length in bytes, then
 
      requests: call (0 load, 1 run, 2 reach, 3 step), budget, 7 registers, the lengths of image, data,
                temporary, control and report, and the bytes of these;
@@ -20,13 +19,7 @@
 
 #include "piton.h"
 
-/* A call that the library does not have is NULL. */
-#pragma weak piton_load
-#pragma weak piton_run
-#pragma weak piton_reach
-#pragma weak piton_step
-
-enum { LOAD, RUN, REACH, STEP, CALLS };
+enum { LOAD, RUN, REACH, STEP };
 enum { IMAGE, DATA, TEMPORARY, CONTROL, REPORT, BUFFERS };
 
 /* A batch that takes longer ends the bridge: a call that never ends is a failure, not a wait. */
@@ -41,17 +34,6 @@ static void stop(const char *why)
 {
     fprintf(stderr, "bridge: %s\n", why);
     exit(EXIT_FAILURE);
-}
-
-static int has(uint32_t call)
-{
-    switch (call) {
-    case LOAD: return piton_load != NULL;
-    case RUN: return piton_run != NULL;
-    case REACH: return piton_reach != NULL;
-    case STEP: return piton_step != NULL;
-    default: return 0;
-    }
 }
 
 /* Bytes that are read from the front or grow at the end. */
@@ -162,8 +144,6 @@ static void serve(queue *requests, queue *replies)
     buffer lent[BUFFERS];
     uint32_t answer = 0, place = 0, steps = 0;
 
-    if (!has(call))
-        stop("the library does not have this call");
     for (int i = 0; i < BUFFERS; i++)
         lent[i].length = take_number(requests);
     for (int i = 0; i < BUFFERS; i++)
@@ -187,8 +167,10 @@ static void serve(queue *requests, queue *replies)
                                             LENT(CONTROL), LENT(REPORT));
         answer = said.answer;
         place = said.place;
-    } else {
+    } else if (call == STEP) {
         piton_step(LENT(IMAGE), &registers, LENT(DATA), LENT(TEMPORARY), LENT(CONTROL));
+    } else {
+        stop("there is no such call");
     }
 
     put_number(replies, answer);
@@ -211,10 +193,6 @@ int main(void)
 {
     queue requests = { 0 }, replies = { 0 };
     uint8_t length[4];
-
-    for (uint32_t call = LOAD; call < CALLS; call++)
-        put_number(&replies, (uint32_t)has(call));
-    send(&replies);
 
     while (fread(length, 1, sizeof length, stdin) == sizeof length) {
         requests.read = 0;

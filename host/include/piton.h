@@ -98,8 +98,9 @@ piton_said piton_reach(const uint8_t *image, size_t image_length,
                        uint8_t *control, size_t control_length,
                        uint8_t *report, size_t report_length);
 
-/* Takes one step, as a run with budget 1. What a run would refuse it leaves as it is. The library does
-   not have it yet. */
+/* Takes one step, as a run with budget 1: registers and buffers become those of the next state. Under
+   HALT or ERROR, and where a run is refused, all stay as they are; a run with budget 0 says whether it
+   is. `registers` is not NULL and lies in none of the buffers. */
 void piton_step(const uint8_t *image, size_t image_length,
                 piton_registers *registers,
                 uint8_t *data, size_t data_length,

@@ -1,14 +1,15 @@
 -- The promises of the calls, case by case, as rules for `search`.
-use mathlib.Core.Path.{_≡_, refl, sym, ap, _∙_}
+use mathlib.Core.Path.{_≡_, refl, sym, ap, subst, _∙_}
 use mathlib.Core.List.{List, [], _∷_}
 use mathlib.Core.Bool.{Bool, true, false}
-use Prim.Native.Nat.{ℕ, _+_, _≤_}
+use Prim.Native.Nat.{ℕ, zero, suc, _+_}
 use native.Mathlib.Omega.{arith}
 use borrow.Author.Tests.{ne-eqb}
 use lib.Dec.{eqb, leb}
 use lib.ListN.{length}
 use Rattle.moore.specs.Objects.{choose}
-use Rattle.moore.specs.Machine.{State}
+use Rattle.moore.specs.Machine.{Text, State, p-step, P}
+use Rattle.moore.proofs.Steps.{p-still}
 use Rattle.scope.specs.declared.Checked.{Checked}
 use Rattle.scope.specs.declared.Checked.the-variants.{Fine, Refused}
 use Rattle.scope.specs.declared.Loaded.{Loaded}
@@ -17,11 +18,10 @@ use Rattle.scope.specs.Image.{areas, temps, controlLimit}
 use Rattle.scope.specs.Checks.{test, firstFailing, imageSays}
 use Rattle.scope.specs.Holding.{initial, textOf, Holds, Keeps}
 use Rattle.scope.specs.declared.Ran.{Ran}
-use Rattle.scope.specs.declared.Said.{Said}
 use Rattle.scope.specs.States.{StateOk}
 use Rattle.scope.specs.Reach.{Report}
-use Rattle.scope.specs.Calls.{StateSays, before, ill-formed, well-formed, runSays, Runs, reportSays, Reports}
-use Rattle.scope.specs.Calls.{andThen, bufferTests, loadSays, noRegisters, numberOf, placeOf, Same, SameLengths, Loads}
+use Rattle.scope.specs.Calls.{StateSays, before, ill-formed, well-formed, runSays, Count, Runs, Steps, reportSays, Reports}
+use Rattle.scope.specs.Calls.{andThen, bufferTests, loadSays, numberOf, placeOf, SameLengths, Loads}
 use Rattle.image.specs.declared.Counts.{Counts}
 use Rattle.image.specs.Laid.{Counted, countsOf}
 use Rattle.accept.proofs.Chain.{counted}
@@ -153,6 +153,27 @@ module _ (b : List ℕ) (r : Registers) (d t c : List ℕ) (budget : ℕ) where
       }
 
 pub ruleset runs = (run-bad-image, run-bad-buffer, run-bad-state, run-done)
+
+-- ---- step
+
+-- as many steps as a run with budget 1 takes are one: where it takes none, one changes nothing
+taken : (m : Text) (s : State) (n : ℕ) → Count m s 1 n → P m s n ≡ p-step m s
+unfolding P
+taken m s zero k = sym (p-still m s 1 (k .least (omega arith)))
+taken m s (suc zero) k = refl
+taken m s (suc (suc n)) k = absurd (omega (arith, k .within))
+
+pub run-steps : (b : List ℕ) (r : Registers) (d t c : List ℕ) (out : Ran) (d′ t′ c′ : List ℕ) → Runs b r d t c 1 out d′ t′ c′
+    → Steps b r d t c (out .registers) d′ t′ c′
+run-steps b r d t c out d′ t′ c′ h =
+    record {
+      said = h .said;
+      says = h .says;
+      refused = λ n p e. let x = h .refused n p e in (ap (λ (o : Ran). o .registers) (x .0), x .1);
+      stepped = λ e s k.
+          let x = h .ran e s k in
+          (x .3, subst (Keeps b (out .registers) d′ t′ c′) (taken (textOf b) s (out .steps) (x .0)) (x .4));
+    }
 
 -- ---- report
 

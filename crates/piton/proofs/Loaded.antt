@@ -1,17 +1,14 @@
 -- "The state is then well-formed": a load that is done leaves a well-formed state, which holds Moore's initial p-state of the image.
 use mathlib.Core.Path.{_≡_, refl, sym, _∙_}
-use mathlib.Core.List.{List, [], _∷_}
-use Prim.Native.Nat.{ℕ, _+_}
-use lib.Dec.{leb}
+use mathlib.Core.List.{List}
+use Prim.Native.Nat.{ℕ}
 use lib.ListN.{length}
-use Rattle.scope.specs.declared.Checked.{Checked}
-use Rattle.scope.specs.declared.Checked.the-variants.{Fine, Refused}
+use Rattle.scope.specs.declared.Checked.the-variants.{Fine}
 use Rattle.scope.specs.declared.Loaded.{Loaded}
-use Rattle.scope.specs.Image.{temps, controlLimit}
-use Rattle.scope.specs.Checks.{test, firstFailing, imageSays}
+use Rattle.scope.specs.Checks.{imageSays}
 use Rattle.scope.specs.States.{StateOk}
 use Rattle.scope.specs.Holding.{initial, Keeps}
-use Rattle.scope.specs.Calls.{andThen, bufferTests, loadSays, Loads}
+use Rattle.scope.specs.Calls.{loadSays, Loads}
 use Rattle.scope.proofs.Tests.{both-fine}
 use Rattle.cells.specs.Rows.{Bytes}
 use Rattle.accept.proofs.Exact.{accepted-formed}

@@ -4,7 +4,7 @@ use mathlib.Core.List.{List, map, reverse}
 use Prim.Native.Nat.{ℕ}
 use native.Mathlib.Omega.{arith}
 use lib.ListN.{length}
-use Rattle.moore.specs.Machine.{State, P}
+use Rattle.moore.specs.Machine.{State, p-step, P}
 use Rattle.scope.specs.declared.Checked.{Checked}
 use Rattle.scope.specs.declared.Checked.the-variants.{Fine, Refused}
 use Rattle.scope.specs.declared.Loaded.{Loaded}
@@ -12,10 +12,10 @@ use Rattle.scope.specs.declared.Ran.{Ran}
 use Rattle.scope.specs.declared.Registers.{Registers}
 use Rattle.scope.specs.declared.Said.{Said}
 use Rattle.scope.specs.Cells.{cellOf}
-use Rattle.scope.specs.Checks.{firstFailing, imageSays}
+use Rattle.scope.specs.Checks.{imageSays}
 use Rattle.scope.specs.States.{StateOk}
-use Rattle.scope.specs.Holding.{textOf, controlWords, buffer, Holds, Keeps}
-use Rattle.scope.specs.Calls.{numberOf, placeOf, andThen, bufferTests, loadSays, runSays, reportSays, answerOf, Same, SameLengths, Loads, Runs, Reports}
+use Rattle.scope.specs.Holding.{textOf, controlWords, buffer, Holds}
+use Rattle.scope.specs.Calls.{numberOf, placeOf, loadSays, runSays, reportSays, answerOf, Same, Loads, Runs, Steps, Reports}
 use Rattle.scope.specs.Calls.{StateSays, before, ill-formed, well-formed}
 use Rattle.scope.proofs.Tests.{both-fine}
 use Rattle.cells.specs.Rows.{Bytes}
@@ -24,7 +24,7 @@ use Rattle.states.specs.Lengths.{Sized}
 use Rattle.states.proofs.Lengths.{sized}
 use Rattle.sealed.proofs.Counts.{count-one}
 use Rattle.sealed.proofs.Report.{report-one}
-use Rattle.link.specs.Pack.{Lent, Kept}
+use Rattle.link.specs.Pack.{Kept}
 use Rattle.link.proofs.Theorems.{found}
 
 -- a p-state is held by one packing only
@@ -95,9 +95,9 @@ module _ (v : Checked) (b : List ℕ) (r : Registers) (d t c : List ℕ) where
   said-well x (well-formed e h) f = (e, h)
 
 -- what image and buffers are when a run is not refused for them
-pub run-sized : (b d t c : List ℕ) → runSays b (length d) (length t) (length c) ≡ Fine → (imageSays b ≡ Fine) × Sized b d t c
+pub run-accepted : (b d t c : List ℕ) → runSays b (length d) (length t) (length c) ≡ Fine → (imageSays b ≡ Fine) × Sized b d t c
 unfolding runSays
-run-sized b d t c e = let v = both-fine (imageSays b) _ e in (v .0, sized b d t c _ Fine (sym (v .1)) refl)
+run-accepted b d t c e = let v = both-fine (imageSays b) _ e in (v .0, sized b d t c _ Fine (sym (v .1)) refl)
 
 module _ (b : List ℕ) (r : Registers) (d t c : List ℕ) (yb : Bytes b) (yd : Bytes d) (yt : Bytes t) (yc : Bytes c) where
   -- the p-state of what is accepted
@@ -115,7 +115,7 @@ module _ (b : List ℕ) (r : Registers) (d t c : List ℕ) (yb : Bytes b) (yd : 
       o
 
   kept-to-run : runSays b (length d) (length t) (length c) ≡ Fine → StateOk b r d t c → Kept b r d t c
-  kept-to-run e o = let v = run-sized b d t c e in kept (v .0) (v .1) o
+  kept-to-run e o = let v = run-accepted b d t c e in kept (v .0) (v .1) o
 
   kept-to-report : (k : ℕ) → reportSays b (length d) (length t) (length c) k ≡ Fine → StateOk b r d t c → Kept b r d t c
   unfolding reportSays
@@ -150,6 +150,28 @@ module _ (b : List ℕ) (r : Registers) (d t c : List ℕ) (yb : Bytes b) (yd : 
             (y .3 .temporary ∙ sym (x .3 .temporary))
             (y .3 .control ∙ sym (x .3 .control)) in
             (λ i. record { answer = answer i; place = place i; steps = steps i; registers = h .0 i }, h .1)
+
+  -- ---- step
+
+  module _ (o p : Registers) (d₁ t₁ c₁ d₂ t₂ c₂ : List ℕ) (f : Steps b r d t c o d₁ t₁ c₁) (g : Steps b r d t c p d₂ t₂ c₂) where
+    pub step-one : (o ≡ p) × Same d₁ t₁ c₁ d₂ t₂ c₂
+    step-one = by (f .said) refl
+      where
+        same : f .said ≡ g .said
+        same = says-one _ b r d t c (f .said) (g .said) (f .says) (g .says)
+
+        by : (v : Checked) → f .said ≡ v → (o ≡ p) × Same d₁ t₁ c₁ d₂ t₂ c₂
+        by (Refused n q) e =
+            let x = f .refused n q e in
+            let y = g .refused n q (sym same ∙ e) in
+            (x .0 ∙ sym (y .0), unchanged d t c d₁ t₁ c₁ d₂ t₂ c₂ (x .1) (y .1))
+        by Fine e =
+            let w = said-well _ b r d t c (f .said) (f .says) e in
+            let k = kept-to-run (w .0) (w .1) in
+            let x = f .stepped e (k .state) (k .keeps) in
+            let y = g .stepped (sym same ∙ e) (k .state) (k .keeps) in
+            held-one (p-step (textOf b) (k .state)) o p d₁ t₁ c₁ d₂ t₂ c₂ (x .1 .holds) (y .1 .holds) (y .0 .temporary ∙ sym (x .0 .temporary))
+            (y .0 .control ∙ sym (x .0 .control))
 
   -- ---- report
 

@@ -1,27 +1,25 @@
 -- From a run on cells to Moore's words: a well-formed state can be run, and a run leaves the p-state that as many of Moore's steps leave.
 use mathlib.Core.Path.{_≡_, refl, sym, ap, subst, _∙_}
-use mathlib.Core.List.{List, [], _∷_, map}
-use mathlib.Core.Bool.{true}
-use Prim.Native.Nat.{ℕ, _+_, _<_, _≤_}
+use mathlib.Core.List.{List, [], _∷_}
+use Prim.Native.Nat.{ℕ, _+_, _<_}
 use native.Mathlib.Omega.{arith}
 use lib.ListN.{length, getD, length-map}
 use mir.Val.{Fits}
 use mir.Syntax.{w8}
 use Rattle.moore.specs.Objects.{Obj, none, choose}
-use Rattle.moore.specs.Machine.{Frame, State, Psw, run, halt, error, ctrl-size, p-objectp, P}
-use Rattle.moore.specs.Proper.{All, ProperObj, ProperFrames}
-use Rattle.moore.specs.Proper as M
+use Rattle.moore.specs.Machine.{Frame, State, Psw, run, halt, error, P}
+use Rattle.moore.specs.Proper.{ProperObj, ProperFrames}
 use Rattle.moore.proofs.Lists.{all-inside}
 use Rattle.scope.specs.declared.Registers.{Registers}
-use Rattle.scope.specs.Cells.{cellOf, free, objectp}
+use Rattle.scope.specs.Cells.{cellOf, free}
 use Rattle.scope.specs.Image.{programs, locals}
 use Rattle.scope.specs.Checks.{boundsOf, WellFormed}
 use Rattle.scope.specs.States.{StateOk}
 use Rattle.scope.specs.Holding.{textOf, baseOf, controlWords, statusOf, Proper, Keeps}
-use Rattle.scope.specs.Calls.{Count, SameLengths, answerOf}
+use Rattle.scope.specs.Calls.{Count, answerOf}
 use Rattle.cells.specs.Rows.{Bytes}
-use Rattle.packed.specs.Packed.{Packed, seen, steps, Roomy}
-use Rattle.link.specs.Pack.{pack, Lent, Kept}
+use Rattle.packed.specs.Packed.{Packed, steps}
+use Rattle.link.specs.Pack.{pack, Lent}
 use Rattle.link.proofs.Lists.{map-get}
 use Rattle.link.proofs.Held.{length-words}
 use Rattle.link.proofs.Objects.{object-passes}

@@ -3,23 +3,21 @@ use mathlib.Core.Path.{_≡_, sym, ap, subst, _∙_}
 use mathlib.Core.List.{List, map, reverse}
 use Prim.Native.Nat.{ℕ, _*_}
 use lib.ListN.{length}
-use Rattle.moore.specs.Objects.{Obj}
-use Rattle.moore.specs.Machine.{Text, Frame, Psw, State, P, ctrl-size}
+use Rattle.moore.specs.Machine.{Text, State, P, ctrl-size}
 use Rattle.scope.specs.declared.Checked.the-variants.{Fine}
 use Rattle.scope.specs.declared.Ran.{Ran}
 use Rattle.scope.specs.declared.Registers.{Registers}
 use Rattle.scope.specs.declared.Said.{Said}
 use Rattle.scope.specs.Cells.{cellOf}
-use Rattle.scope.specs.Image.{temporaryLimit, controlLimit}
 use Rattle.scope.specs.Reach.{Report}
-use Rattle.scope.specs.Holding.{textOf, baseOf, controlWords, statusOf, errorOf, registersOf, buffer, Holds, Keeps}
+use Rattle.scope.specs.Holding.{textOf, baseOf, controlWords, statusOf, errorOf, registersOf, buffer, Keeps}
 use Rattle.scope.specs.Calls.{answerOf, Count, Runs, Reports}
 use Rattle.accept.proofs.Exact.{accepted-formed}
 use Rattle.sealed.specs.Agree.{Drawn, EqualBut, SealedBy}
 use Rattle.sealed.proofs.Drawn.{drawn}
 use Rattle.sealed.proofs.Demand.{same-count}
 use Rattle.sealed.proofs.Report.{report-agree, demand-3-report}
-use Rattle.piton.proofs.One.{said-well, run-sized}
+use Rattle.piton.proofs.One.{said-well, run-accepted}
 
 -- two runs, of the p-states s and u, that end alike; k reports what was in reach from s
 pub record EndAlike (b b′ k : List ℕ) (s u : State) (o o′ : Ran) (d t c d′ t′ c′ : List ℕ) : Type 0 where
@@ -57,8 +55,8 @@ module _ (b b′ : List ℕ) (r r′ : Registers) (d t c d′ t′ c′ : List �
   unfolding textOf
   demand-3-calls =
       let m = textOf b in
-      let accepted = run-sized b d t c (said-well _ b r d t c (f .said) (f .says) first-ran .0) in
-      let accepted′ = run-sized b′ d′ t′ c′ (said-well _ b′ r′ d′ t′ c′ (g .said) (g .says) second-ran .0) in
+      let accepted = run-accepted b d t c (said-well _ b r d t c (f .said) (f .says) first-ran .0) in
+      let accepted′ = run-accepted b′ d′ t′ c′ (said-well _ b′ r′ d′ t′ c′ (g .said) (g .says) second-ran .0) in
       let w : Drawn m = drawn b (accepted-formed b (accepted .0)) in
       let report : Report m s k = h .done reported s ks in
       let x = f .ran first-ran s ks in

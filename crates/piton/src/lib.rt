@@ -1,9 +1,9 @@
-// The face: load, run and report, exported to C. Every call takes every input.
+// The face: load, run, step and report, exported to C. Every call takes every input.
 ghost use mathlib.Core.Path.{_≡_};
 ghost use Rattle.scope.specs.declared.Checked.the-variants.{Fine};
 ghost use Rattle.scope.specs.Checks.{imageSays};
 ghost use Rattle.scope.specs.States.{StateOk};
-ghost use Rattle.scope.specs.Calls.{runSays, reportSays, Loads, Runs, Reports};
+ghost use Rattle.scope.specs.Calls.{runSays, reportSays, Loads, Runs, Steps, Reports};
 ghost use lib.ListN.{length};
 ghost use Rattle.image.specs.Laid.{Accepted};
 ghost use Rattle.states.specs.Lengths.{Sized};
@@ -192,6 +192,38 @@ pub extern "C" fn piton_run(
         Checked::Fine => run_image(image, registers, areas, temporary, control, budget),
         Checked::Refused { answer, place } => refused_run(answer, place, registers),
     }
+}
+
+// ---- step
+
+// One step by value: what a run with budget 1 leaves.
+fn step(
+    image: &[u8],
+    registers: Registers,
+    areas: &mut [u8],
+    temporary: &mut [u8],
+    control: &mut [u8],
+) -> Registers
+    ensures { λ r. ⌜ Steps (now (image .entry)) registers (now (areas .entry)) (now (temporary .entry)) (now (control .entry)) r
+        (now (areas .exit)) (now (temporary .exit)) (now (control .exit)) ⌝ }
+{
+    let ran = piton_run(image, registers, areas, temporary, control, 1);
+    ran.registers
+}
+
+// "One step moves the registers and at most these buffers"; on anything not accepted it changes nothing.
+#[no_mangle]
+pub extern "C" fn piton_step(
+    image: &[u8],
+    registers: &mut Registers,
+    areas: &mut [u8],
+    temporary: &mut [u8],
+    control: &mut [u8],
+)
+    ensures { λ _. ⌜ Steps (now (image .entry)) (now (registers .entry)) (now (areas .entry)) (now (temporary .entry)) (now (control .entry))
+        (now (registers .exit)) (now (areas .exit)) (now (temporary .exit)) (now (control .exit)) ⌝ }
+{
+    *registers = step(image, *registers, areas, temporary, control);
 }
 
 // ---- report

@@ -4,7 +4,7 @@ use mathlib.Core.List.{List}
 use Prim.Native.Nat.{ℕ, zero, suc, _+_, _<_, _≤_}
 use native.Mathlib.Omega.{arith}
 use borrow.Author.Count.{below-more}
-use borrow.Author.Tests.{eq-eqb, ne-eqb}
+use borrow.Author.Tests.{eq-eqb}
 use Rattle.moore.specs.Objects.{choose}
 use Rattle.scope.specs.declared.Instruction.{Instruction}
 use Rattle.scope.specs.declared.Registers.{Registers}
@@ -36,16 +36,6 @@ unfolding step choose
 performed b r q d t c d′ t′ c′ i z e p =
     let s : step b (seen r d t c) ≡ settle (i .code) (seen r d t c) (sem b i (seen r d t c)) = simp (eq-eqb (r .status) 0 z, e) in
     record { now = p .now ∙ sym s; roomy = p .roomy; same = p .same }
-
-pub still : (b : List ℕ) (at : Offsets) (n : Counts) (r : Registers) (d t c : List ℕ) → Ready b at n r d t c → (r .status ≡ 0 → ⊥)
-    → Stepped b r d t c r d t c
-unfolding step choose
-still b at n r d t c y z =
-    record {
-      now = simp (ne-eqb (r .status) 0 z);
-      roomy = y .roomy;
-      same = record { areas = refl; temporary = refl; control = refl };
-    }
 
 -- ---- many
 

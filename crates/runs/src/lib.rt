@@ -114,26 +114,6 @@ fn perform(
     exec(image, at, n, r, i, store, temporary, control)
 }
 
-// One step. "Under HALT or ERROR a step changes nothing."
-pub fn step(
-    image: &[u8],
-    at: Offsets,
-    n: Counts,
-    r: Registers,
-    store: &mut [u8],
-    temporary: &mut [u8],
-    control: &mut [u8],
-) -> Registers
-    requires { ⌜ Ready (now image) at n r (now store) (now temporary) (now control) ⌝ }
-    ensures { λ q. ⌜ Stepped (now (image .entry)) r (now (store .entry)) (now (temporary .entry)) (now (control .entry)) q (now (store .exit)) (now (temporary .exit)) (now (control .exit)) ⌝ }
-{
-    if r.status == RUN {
-        perform(image, at, n, r, store, temporary, control)
-    } else {
-        r
-    }
-}
-
 // How many steps a run took, and where it stands.
 pub struct Ended {
     pub steps: u32,

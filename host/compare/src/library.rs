@@ -6,7 +6,7 @@ use std::process::{Child, ChildStdin, ChildStdout, Command, Stdio};
 
 use second::{Loaded, Ran, Said, State};
 
-use crate::case::{Call, Case, Function, Lent, Outcome};
+use crate::case::{Call, Case, Lent, Outcome};
 use crate::difference::{differences, Difference};
 use crate::wire::{replies, requests, NUMBER_BYTES};
 
@@ -22,7 +22,6 @@ pub struct Library {
     process: Child,
     requests: ChildStdin,
     replies: ChildStdout,
-    has: [bool; 4],
 }
 
 impl Library {
@@ -40,22 +39,12 @@ impl Library {
             .spawn()
             .unwrap_or_else(|error| panic!("{} does not start: {error}", run.display()));
         let requests = process.stdin.take().expect("it is piped");
-        let mut replies = process.stdout.take().expect("it is piped");
-        let mut has = [0; 4 * NUMBER_BYTES];
-        replies
-            .read_exact(&mut has)
-            .unwrap_or_else(|error| panic!("{} says nothing: {error}", run.display()));
+        let replies = process.stdout.take().expect("it is piped");
         Library {
             process,
             requests,
             replies,
-            has: std::array::from_fn(|number| has[NUMBER_BYTES * number] == 1),
         }
-    }
-
-    /// Whether the library has this function.
-    pub fn has(&self, function: Function) -> bool {
-        self.has[function as usize]
     }
 
     /// The bridge reads a batch whole before it answers, so nothing waits for nobody.

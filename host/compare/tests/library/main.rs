@@ -1,5 +1,4 @@
-//! The library held against the second interpreter, sentence by sentence. A sentence that needs a
-//! function that the library does not have is left out, which is said, and counts for nothing.
+//! The library held against the second interpreter, sentence by sentence.
 //!
 //! `cargo test -p compare --test library -- WORD..` holds the sentences with one of these words in
 //! their names.
@@ -13,23 +12,21 @@ mod two_runs;
 
 use std::time::Instant;
 
-use compare::{Function, Hold, Library};
+use compare::{Hold, Library};
 use second::generate::Random;
 
-/// A sentence: its name, the functions it is about, and the comparisons that hold it.
+/// A sentence: its name, and the comparisons that hold it.
 #[derive(Clone, Copy)]
 struct Sentence {
     name: &'static str,
-    needs: &'static [Function],
     compare: fn(&mut Hold),
 }
 
-/// The sentences of a module, each with the functions it needs.
+/// The sentences of a module.
 macro_rules! sentences {
-    ($($sentence:ident: $needs:expr,)*) => {
+    ($($sentence:ident,)*) => {
         pub const SENTENCES: &[crate::Sentence] = &[$(crate::Sentence {
             name: stringify!($sentence),
-            needs: &$needs,
             compare: $sentence,
         }),*];
     };
@@ -42,12 +39,6 @@ fn seeds(salt: u64, images: u64) -> impl Iterator<Item = Random> {
 }
 
 impl Sentence {
-    /// The functions that it needs and the library does not have.
-    fn missing(&self, library: &Library) -> Vec<&'static str> {
-        let missing = self.needs.iter().filter(|need| !library.has(**need));
-        missing.map(|need| need.name()).collect()
-    }
-
     fn hold(&self, library: &mut Library) {
         let start = Instant::now();
         let mut hold = Hold::new(library, self.name);
@@ -65,7 +56,7 @@ fn main() {
     let wanted = |name: &str| words.is_empty() || words.iter().any(|word| name.contains(*word));
 
     let mut library = Library::start();
-    let (mut held, mut left_out) = (0, 0);
+    let mut held = 0;
     for sentence in [
         load::SENTENCES,
         run::SENTENCES,
@@ -76,22 +67,11 @@ fn main() {
     ]
     .concat()
     {
-        if !wanted(sentence.name) {
-            continue;
-        }
-        let missing = sentence.missing(&library);
-        if missing.is_empty() {
+        if wanted(sentence.name) {
             sentence.hold(&mut library);
             held += 1;
-        } else {
-            println!(
-                "left out: {}: the library has no {}",
-                sentence.name,
-                missing.join(", ")
-            );
-            left_out += 1;
         }
     }
     assert!(held > 0 || !words.is_empty(), "nothing was compared");
-    println!("{held} sentences held, {left_out} left out");
+    println!("{held} sentences held");
 }

@@ -2,10 +2,11 @@
 use mathlib.Core.Path.{_≡_}
 use mathlib.Core.List.{List}
 use Prim.Native.Nat.{ℕ, _+_, _*_, _<_}
-use lib.ListN.{getD}
+use lib.ListN.{length, getD}
 use lib.Seq.{sets}
 use Rattle.scope.specs.declared.Cell.{Cell}
 use Rattle.scope.specs.Cells.{cellFrom, cellAt, bytesOf, free}
+use Rattle.scope.specs.Image.{dataCells, controlLimit, temporaryLimit}
 use Rattle.scope.specs.Checks.{tab}
 
 -- a byte x as a wider number r
@@ -38,3 +39,9 @@ Fits cs = (i : ℕ) → Fit (getD cs i free)
 
 abbrev pub Bytes : List ℕ → Type 0
 Bytes b = (m : ℕ) → getD b m 0 < 256
+
+-- "The three lent buffers hold exactly 8·D, 8·T and 8·C bytes."
+pub record Sized (b d t c : List ℕ) : Type 0 where
+  pub areas : length d ≡ 8 * dataCells b
+  pub temporary : length t ≡ 8 * temporaryLimit b
+  pub control : length c ≡ 8 * controlLimit b

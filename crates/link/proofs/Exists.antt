@@ -242,9 +242,9 @@ module _ (b : List ℕ) (w : WellFormed b) (y : Bytes b) where
       let ee : r .error ≡ errorOf (q .psw) = q .error-is in
       let ec : cells (r .control) c ≡ controlWords (f .frames) = sym (f .words) in
       let et : stk t (r .temporary) ≡ map cellOf T = sym (stack-back t (r .temporary) (n .temporary-bytes) (h .temporary-objects)) in
-      let rd : room d ≡ dataCells b = omega (arith, n .data-length) in
-      let rt : room t ≡ temporaryLimit b = omega (arith, n .temporary-length) in
-      let rc : room c ≡ controlLimit b = omega (arith, n .control-length) in
+      let rd : room d ≡ dataCells b = omega (arith, n .sized .areas) in
+      let rt : room t ≡ temporaryLimit b = omega (arith, n .sized .temporary) in
+      let rc : room c ≡ controlLimit b = omega (arith, n .sized .control) in
       let ed : cells (room d) d ≡ dataWords D = ap (λ (k : ℕ). cells k d) rd ∙ sym (areas-words (cellAt d) gd) in
       let seen-is : Sees r d t c s = record {
         cells = λ i. record {
@@ -277,6 +277,6 @@ module _ (b : List ℕ) (w : WellFormed b) (y : Bytes b) where
           };
           holds =
               sees-holds r d t c s (n .data-bytes) (n .temporary-bytes) (n .control-bytes)
-              (omega (arith, n .data-length)) (omega (arith, n .temporary-length)) (omega (arith, n .control-length)) seen-is;
+              (omega (arith, n .sized .areas)) (omega (arith, n .sized .temporary)) (omega (arith, n .sized .control)) seen-is;
         };
       }

@@ -162,13 +162,13 @@ module _ (b : List ℕ) (w : WellFormed b) (y : Bytes b) where
       sees : Sees (registersOf s) d t c s
       sees =
           holds-sees (registersOf s) d t c s fitting
-          (omega (arith, n .temporary-length, used-cells)) (omega (arith, n .control-length, used-words)) h
+          (omega (arith, n .sized .temporary, used-cells)) (omega (arith, n .sized .control, used-words)) h
 
       here : (s .prog < programs b) × (s .off < instructionCount b (s .prog))
       here = in-code (s .prog) (s .off) (k .pc)
 
       rooms : (room d ≡ dataCells b) × (room t ≡ temporaryLimit b) × (room c ≡ controlLimit b)
-      rooms = (omega (arith, n .data-length), omega (arith, n .temporary-length), omega (arith, n .control-length))
+      rooms = (omega (arith, n .sized .areas), omega (arith, n .sized .temporary), omega (arith, n .sized .control))
 
       formed-here : StateOk b (registersOf s) d t c
       formed-here =

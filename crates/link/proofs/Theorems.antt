@@ -2,26 +2,31 @@
 -- p-state that registers and buffers hold. Assumes nothing.
 use mathlib.Core.Path.{_≡_, sym, ap, _∙_}
 use mathlib.Core.List.{List, [], _∷_, map}
-use Prim.Native.Nat.{ℕ, _+_, _≤_}
+use Prim.Native.Nat.{ℕ, _+_, _<_, _≤_}
 use native.Mathlib.Omega.{arith}
-use lib.ListN.{length}
-use Rattle.moore.specs.Objects.{Obj}
-use Rattle.moore.specs.Machine.{Frame, State, run, p-step1, p-step, P, insAt}
+use lib.ListN.{length, getD}
+use Rattle.moore.specs.Objects.{Obj, none}
+use Rattle.moore.specs.Machine.{Frame, State, area, run, p-step1, p-step, P, insAt}
 use Rattle.moore.specs.Proper.{All, ProperObj, ProperFrames}
 use Rattle.moore.proofs.Texts.{ProperText}
 use Rattle.moore.proofs.Lists.{all-map}
 use Rattle.moore.proofs.Proper.{proper-steps}
 use Rattle.scope.specs.declared.Registers.{Registers}
-use Rattle.scope.specs.Image.{controlLimit, temps, instructionOf}
+use Rattle.scope.specs.Cells.{cellAt, cellOf, free}
+use Rattle.scope.specs.Image.{areas, controlLimit, temps, firstCell, areaLength, instructionOf}
 use Rattle.scope.specs.Checks.{boundsOf, WellFormed}
 use Rattle.scope.specs.States.{StateOk}
-use Rattle.scope.specs.Holding.{textOf, initial, Holds, lengthsOf, Proper, Keeps}
-use Rattle.cells.specs.Rows.{Bytes}
-use Rattle.packed.specs.Packed.{sem, settle, step, steps, seen, Roomy}
+use Rattle.scope.specs.Holding.{textOf, initial, dataWords, Holds, lengthsOf, Proper, Keeps}
+use Rattle.scope.proofs.Formed.{area-first, area-in}
+use Rattle.cells.specs.Rows.{Bytes, Sized}
+use Rattle.cells.proofs.Laws.{getD-cells}
+use Rattle.stacks.specs.Stack.{room}
+use Rattle.packed.specs.Packed.{Packed, sem, settle, step, steps, seen, Roomy}
 use Rattle.link.specs.Pack.{pack, Lent, Kept}
 use Rattle.link.proofs.Objects.{object-cell}
 use Rattle.link.proofs.Held as H
 use Rattle.link.proofs.Held.{Sees, Same}
+use Rattle.link.proofs.Areas.{start, start-sum, data-get}
 use Rattle.link.proofs.Texts as T
 use Rattle.link.proofs.Shapes.{comes-to}
 use Rattle.link.proofs.Steps as S
@@ -70,6 +75,29 @@ module _ (b : List ℕ) (w : WellFormed b) (y : Bytes b) where
 
   -- ---- registers and buffers
 
+  module _ (r : Registers) (d t c : List ℕ) (z : Sized b d t c) (s : State) (k : Keeps b r d t c s) where
+    -- What is seen is the cells of the p-state, with free room above.
+    pub cells-seen : Sees r d t c s
+    cells-seen =
+        H.holds-sees r d t c s (F.fitting b w y s (k .proper))
+        (omega (arith, z .temporary, F.used-cells b w y s (k .proper)))
+        (omega (arith, z .control, F.used-words b w y s (k .proper)))
+        (k .holds)
+
+    pub area-long : (a : ℕ) → a < areas b → length (area (s .areas) a) ≡ areaLength b a
+    area-long = T.length-in b w y (s .areas) (k .proper .lengths)
+
+    -- A cell of an area in the data is the cell of its object.
+    pub area-cell : (a j : ℕ) → a < areas b → j < areaLength b a → cellAt d (firstCell b a + j) ≡ cellOf (getD (area (s .areas) a) j none)
+    area-cell a j l h =
+        let i : firstCell b a + j < room d = omega (arith, area-in b w a j l h, z .areas) in
+        let f : firstCell b a + j ≡ start (s .areas) a + j =
+        ap (λ (x : ℕ). x + j) (area-first b w a l ∙ start-sum (areaLength b) (s .areas) (areas b) area-long a (omega arith)) in
+        sym (getD-cells (room d) (firstCell b a + j) d i)
+        ∙ ap (λ (p : Packed). getD (p .areas) (firstCell b a + j) free) (cells-seen .cells)
+        ∙ ap (λ (x : ℕ). getD (dataWords (s .areas)) x free) f
+        ∙ data-get (s .areas) a j (rw (area-long a l) h)
+
   module _ (r : Registers) (d t c : List ℕ) (n : Lent b d t c) where
     -- A well-formed state holds a proper p-state ..
     pub found : StateOk b r d t c → Kept b r d t c
@@ -79,22 +107,18 @@ module _ (b : List ℕ) (w : WellFormed b) (y : Bytes b) where
     pub formed : (s : State) → Keeps b r d t c s → StateOk b r d t c
     formed s k = F.formed b w y s (k .proper) r d t c n (k .holds)
 
-    -- What is seen in registers and buffers that hold a proper p-state is its cells, with free room above ..
+    -- What is seen in registers and buffers is the cells of the proper p-state that they hold ..
     pub sees : (s : State) → Keeps b r d t c s → Sees r d t c s
-    sees s k =
-        H.holds-sees r d t c s (F.fitting b w y s (k .proper))
-        (omega (arith, n .temporary-length, F.used-cells b w y s (k .proper)))
-        (omega (arith, n .control-length, F.used-words b w y s (k .proper)))
-        (k .holds)
+    sees s k = cells-seen r d t c (n .sized) s k
 
     -- .. and back.
     pub seen-holds : (s : State) → Sees r d t c s → Holds r d t c s
     seen-holds s h =
         H.sees-holds r d t c s (n .data-bytes) (n .temporary-bytes) (n .control-bytes)
-        (omega (arith, n .data-length)) (omega (arith, n .temporary-length)) (omega (arith, n .control-length)) h
+        (omega (arith, n .sized .areas)) (omega (arith, n .sized .temporary)) (omega (arith, n .sized .control)) h
 
   -- every object of a proper p-state is told by its cell
-  told : (s : State) → Proper b s → AllTold s
+  pub told : (s : State) → Proper b s → AllTold s
   told s k =
       record {
         temporary = them (s .temp) (k .temp-objects);

@@ -1,18 +1,20 @@
 -- The cells of a p-state tell the p-state, where each of its objects is told by its cell. Assumes nothing.
 use mathlib.Core.Path.{_≡_, refl, sym, ap, _∙_}
 use mathlib.Core.List.{List, [], _∷_, _++_, map}
-use Prim.Native.Nat.{ℕ}
+use Prim.Native.Nat.{ℕ, _<_}
 use native.Mathlib.Omega.{arith}
 use lib.ListN.{length, getD, take, drop, length-map}
-use lib.Seq.{take-append-seam, drop-append-seam}
-use Rattle.moore.specs.Objects.{Obj}
-use Rattle.moore.specs.Machine.{Frame, State, Psw, run, halt, error}
+use lib.Seq.{take-append-seam, drop-append-seam, ext-getD}
+use Rattle.moore.specs.Objects.{Obj, none}
+use Rattle.moore.specs.Machine.{Frame, State, Psw, run, halt, error, area}
 use Rattle.moore.specs.Proper.{All}
+use Rattle.moore.proofs.Lists.{all-getD}
 use Rattle.scope.specs.declared.Cell.{Cell}
 use Rattle.scope.specs.Cells.{free, cellOf}
 use Rattle.scope.specs.Holding.{object, baseOf, frameWords, controlWords, dataWords, statusOf, errorOf}
 use Rattle.packed.specs.Packed.{Packed}
 use Rattle.link.specs.Pack.{pack}
+use Rattle.link.proofs.Lists.{map-get}
 use Rattle.link.proofs.Held.{length-words}
 
 -- an object is its cell's object
@@ -75,13 +77,54 @@ same-psw (error c) run p q = absurd (omega arith)
 same-psw (error c) halt p q = absurd (omega arith)
 same-psw (error c) (error k) p q = ap error q
 
-pub same-state : (s t : State) → AllTold s → AllTold t → map length (s .areas) ≡ map length (t .areas) → pack s ≡ pack t → s ≡ t
-same-state s t g h n e =
-    let prog : s .prog ≡ t .prog = ap (λ (p : Packed). p .prog) e in
-    let off : s .off ≡ t .off = ap (λ (p : Packed). p .off) e in
-    let ctrl : s .ctrl ≡ t .ctrl =
-    same-frames (s .ctrl) (t .ctrl) (g .frames) (h .frames) (ap (λ (p : Packed). p .base) e) (ap (λ (p : Packed). p .ctrl) e) in
-    let temp : s .temp ≡ t .temp = same-objects (s .temp) (t .temp) (g .temporary) (h .temporary) (ap (λ (p : Packed). p .temp) e) in
-    let areas : s .areas ≡ t .areas = same-areas (s .areas) (t .areas) (g .areas) (h .areas) n (ap (λ (p : Packed). p .areas) e) in
-    let psw : s .psw ≡ t .psw = same-psw (s .psw) (t .psw) (ap (λ (p : Packed). p .status) e) (ap (λ (p : Packed). p .error) e) in
-    λ i. record { prog = prog i; off = off i; ctrl = ctrl i; temp = temp i; areas = areas i; psw = psw i }
+-- cells without the data
+abbrev pub bare : Packed → Packed
+bare p =
+    record {
+      prog = p .prog;
+      off = p .off;
+      base = p .base;
+      status = p .status;
+      error = p .error;
+      ctrl = p .ctrl;
+      temp = p .temp;
+      areas = [];
+    }
+
+-- all but the data is the same
+pub record SameRest (s t : State) : Type 0 where
+  pub prog : s .prog ≡ t .prog
+  pub off : s .off ≡ t .off
+  pub ctrl : s .ctrl ≡ t .ctrl
+  pub temp : s .temp ≡ t .temp
+  pub psw : s .psw ≡ t .psw
+
+module _ (s t : State) (g : AllTold s) (h : AllTold t) where
+  pub same-rest : bare (pack s) ≡ bare (pack t) → SameRest s t
+  same-rest e =
+      record {
+        prog = ap (λ (p : Packed). p .prog) e;
+        off = ap (λ (p : Packed). p .off) e;
+        ctrl = same-frames (s .ctrl) (t .ctrl) (g .frames) (h .frames) (ap (λ (p : Packed). p .base) e) (ap (λ (p : Packed). p .ctrl) e);
+        temp = same-objects (s .temp) (t .temp) (g .temporary) (h .temporary) (ap (λ (p : Packed). p .temp) e);
+        psw = same-psw (s .psw) (t .psw) (ap (λ (p : Packed). p .status) e) (ap (λ (p : Packed). p .error) e);
+      }
+
+  pub same-state : map length (s .areas) ≡ map length (t .areas) → pack s ≡ pack t → s ≡ t
+  same-state n e =
+      let q = same-rest (ap bare e) in
+      let areas : s .areas ≡ t .areas = same-areas (s .areas) (t .areas) (g .areas) (h .areas) n (ap (λ (p : Packed). p .areas) e) in
+      λ i. record { prog = q .prog i; off = q .off i; ctrl = q .ctrl i; temp = q .temp i; areas = areas i; psw = q .psw i }
+
+  -- an area is told by its cells
+  pub same-area : (a : ℕ) → length (area (s .areas) a) ≡ length (area (t .areas) a)
+      → ((i : ℕ) → i < length (area (s .areas) a) → cellOf (getD (area (s .areas) a) i none) ≡ cellOf (getD (area (t .areas) a) i none))
+      → area (s .areas) a ≡ area (t .areas) a
+  same-area a n e =
+      let x : List Obj = area (s .areas) a in
+      let y : List Obj = area (t .areas) a in
+      same-objects x y (all-getD (All Told) (s .areas) a [] (g .areas) tt) (all-getD (All Told) (t .areas) a [] (h .areas) tt)
+      (ext-getD free (map cellOf x) (map cellOf y) (length-map x cellOf ∙ n ∙ sym (length-map y cellOf))
+      (λ i l.
+      let lx : i < length x = omega (arith, length-map x cellOf) in
+      map-get cellOf x i none free lx ∙ e i lx ∙ sym (map-get cellOf y i none free (omega (arith, n)))))

@@ -1,15 +1,12 @@
 -- The cells of a p-state, how Moore's machine meets the machine on cells; and registers and lent buffers that hold a proper p-state.
 -- Nothing here has to be believed.
-use mathlib.Core.Path.{_≡_}
 use mathlib.Core.List.{List, map}
-use Prim.Native.Nat.{ℕ, _*_}
-use lib.ListN.{length}
+use Prim.Native.Nat.{ℕ}
 use Rattle.moore.specs.Machine.{State}
 use Rattle.scope.specs.declared.Registers.{Registers}
 use Rattle.scope.specs.Cells.{cellOf}
-use Rattle.scope.specs.Image.{dataCells, controlLimit, temporaryLimit}
 use Rattle.scope.specs.Holding.{Keeps, baseOf, controlWords, dataWords, statusOf, errorOf}
-use Rattle.cells.specs.Rows.{Bytes}
+use Rattle.cells.specs.Rows.{Bytes, Sized}
 use Rattle.packed.specs.Packed.{Packed}
 
 -- the cells of s, with another status and error code
@@ -34,9 +31,7 @@ pub record Lent (b d t c : List ℕ) : Type 0 where
   pub data-bytes : Bytes d
   pub temporary-bytes : Bytes t
   pub control-bytes : Bytes c
-  pub data-length : length d ≡ 8 * dataCells b
-  pub temporary-length : length t ≡ 8 * temporaryLimit b
-  pub control-length : length c ≡ 8 * controlLimit b
+  pub sized : Sized b d t c
 
 -- the one that they hold
 pub record Kept (b : List ℕ) (r : Registers) (d t c : List ℕ) : Type 0 where

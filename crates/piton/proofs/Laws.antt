@@ -25,7 +25,8 @@ use Rattle.scope.specs.Calls.{andThen, bufferTests, loadSays, numberOf, placeOf
 use Rattle.image.specs.declared.Counts.{Counts}
 use Rattle.image.specs.Laid.{Counted, countsOf}
 use Rattle.accept.proofs.Chain.{counted}
-use Rattle.states.specs.Lengths.{lengthTests, Sized}
+use Rattle.states.specs.Lengths.{lengthTests}
+use Rattle.cells.specs.Rows.{Sized}
 use Rattle.states.specs.Parts.{Decides}
 use Rattle.states.proofs.Lengths.{by-counts, by-counts-report, report-room, sized}
 use Rattle.piton.specs.Answers.{refusedLoad, refusedRun, answerOfStatus, RanWell}

@@ -1,5 +1,5 @@
 -- "The state is then well-formed": a load that is done leaves a well-formed state, which holds Moore's initial p-state of the image.
-use mathlib.Core.Path.{_≡_, refl, sym, _∙_}
+use mathlib.Core.Path.{_≡_, refl, sym}
 use mathlib.Core.List.{List}
 use Prim.Native.Nat.{ℕ}
 use lib.ListN.{length}
@@ -12,7 +12,7 @@ use Rattle.scope.specs.Calls.{loadSays, Loads}
 use Rattle.scope.proofs.Tests.{both-fine}
 use Rattle.cells.specs.Rows.{Bytes}
 use Rattle.accept.proofs.Exact.{accepted-formed}
-use Rattle.states.proofs.Lengths.{sized, bottom-room}
+use Rattle.states.proofs.Lengths.{still-sized, sized, bottom-room}
 use Rattle.link.specs.Pack.{Lent}
 use Rattle.link.proofs.Theorems.{initial-proper, formed}
 
@@ -35,8 +35,6 @@ loaded-well b d t c out d′ t′ c′ yb yd yt yc l e =
       data-bytes = yd;
       temporary-bytes = yt;
       control-bytes = yc;
-      data-length = h .0 .areas ∙ z .areas;
-      temporary-length = h .0 .temporary ∙ z .temporary;
-      control-length = h .0 .control ∙ z .control;
+      sized = still-sized b d t c d′ t′ c′ z (h .0);
     } in
     record { keeps = k; formed = formed b w yb (out .registers) d′ t′ c′ n (initial b) k }

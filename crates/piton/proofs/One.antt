@@ -20,7 +20,7 @@ use Rattle.scope.specs.Calls.{StateSays, before, ill-formed, well-formed}
 use Rattle.scope.proofs.Tests.{both-fine}
 use Rattle.cells.specs.Rows.{Bytes}
 use Rattle.accept.proofs.Exact.{accepted-formed}
-use Rattle.states.specs.Lengths.{Sized}
+use Rattle.cells.specs.Rows.{Sized}
 use Rattle.states.proofs.Lengths.{sized}
 use Rattle.sealed.proofs.Counts.{count-one}
 use Rattle.sealed.proofs.Report.{report-one}
@@ -108,13 +108,11 @@ module _ (b : List ℕ) (r : Registers) (d t c : List ℕ) (yb : Bytes b) (yd : 
         data-bytes = yd;
         temporary-bytes = yt;
         control-bytes = yc;
-        data-length = z .areas;
-        temporary-length = z .temporary;
-        control-length = z .control;
+        sized = z;
       })
       o
 
-  kept-to-run : runSays b (length d) (length t) (length c) ≡ Fine → StateOk b r d t c → Kept b r d t c
+  pub kept-to-run : runSays b (length d) (length t) (length c) ≡ Fine → StateOk b r d t c → Kept b r d t c
   kept-to-run e o = let v = run-accepted b d t c e in kept (v .0) (v .1) o
 
   kept-to-report : (k : ℕ) → reportSays b (length d) (length t) (length c) k ≡ Fine → StateOk b r d t c → Kept b r d t c

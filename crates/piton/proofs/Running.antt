@@ -17,6 +17,7 @@ use Rattle.scope.specs.Checks.{boundsOf, WellFormed}
 use Rattle.scope.specs.States.{StateOk}
 use Rattle.scope.specs.Holding.{textOf, baseOf, controlWords, statusOf, Proper, Keeps}
 use Rattle.scope.specs.Calls.{Count, answerOf}
+use Rattle.states.proofs.Lengths.{still-sized}
 use Rattle.cells.specs.Rows.{Bytes}
 use Rattle.packed.specs.Packed.{Packed, steps}
 use Rattle.link.specs.Pack.{pack, Lent}
@@ -30,7 +31,8 @@ use Rattle.image.specs.declared.Offsets.{Offsets}
 use Rattle.image.specs.Laid.{Accepted}
 use Rattle.runs.specs.Sound.{Sound, Runnable}
 use Rattle.runs.specs.Ran as R
-use Rattle.states.specs.Lengths.{Sized}
+use Rattle.states.proofs.Lengths.{still-sized}
+use Rattle.cells.specs.Rows.{Sized}
 use Rattle.piton.specs.Answers.{answerOfStatus, RanWell}
 
 module _ (b : List ℕ) (w : WellFormed b) (y : Bytes b) where
@@ -81,7 +83,7 @@ module _ (b : List ℕ) (w : WellFormed b) (y : Bytes b) where
         let z = sees b w y r d t c n (q .state) (q .keeps) in
         record {
           accepted = a;
-          lent = record { areas = n .data-length; temporary = n .temporary-length; control = n .control-length };
+          lent = n .sized;
           roomy = z .roomy;
           sound = λ j.
               subst (Sound b) (sym (ap (λ (x : Packed). steps b x j) (z .cells) ∙ steps-pack b w y j (q .state) (q .keeps .proper)))
@@ -111,9 +113,7 @@ lent b d t c od ot oc z =
       data-bytes = bytes d od;
       temporary-bytes = bytes t ot;
       control-bytes = bytes c oc;
-      data-length = z .areas;
-      temporary-length = z .temporary;
-      control-length = z .control;
+      sized = z;
     }
 
 answers : (q : Psw) → answerOfStatus (statusOf q) ≡ answerOf q
@@ -131,12 +131,7 @@ module _ (b : List ℕ) (r : Registers) (d t c : List ℕ) (ob : Octets b) (od :
       → R.Ran b budget k r d t c r′ d′ t′ c′ → answer ≡ answerOfStatus (r′ .status)
       → RanWell b r d t c budget (record { answer = answer; place = 0; steps = k; registers = r′ }) d′ t′ c′
   run-well budget k answer r′ d′ t′ c′ od′ ot′ oc′ h e =
-      let z′ : Sized b d′ t′ c′ =
-      record {
-        areas = h .same .areas ∙ z .areas;
-        temporary = h .same .temporary ∙ z .temporary;
-        control = h .same .control ∙ z .control;
-      } in
+      let z′ : Sized b d′ t′ c′ = still-sized b d t c d′ t′ c′ z (h .same) in
       record {
         well = λ s g.
             let q =

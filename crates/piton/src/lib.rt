@@ -6,7 +6,7 @@ ghost use Rattle.scope.specs.States.{StateOk};
 ghost use Rattle.scope.specs.Calls.{runSays, reportSays, Loads, Runs, Steps, Reports};
 ghost use lib.ListN.{length};
 ghost use Rattle.image.specs.Laid.{Accepted};
-ghost use Rattle.states.specs.Lengths.{Sized};
+ghost use Rattle.cells.specs.Rows.{Sized};
 ghost use Rattle.piton.specs.Answers.{refusedLoad, refusedRun, answerOfStatus, RanWell};
 use image::Counts;
 use image::Offsets;

@@ -13,22 +13,20 @@ use Rattle.scope.specs.Cells.{cellFrom, cellAt, cellOf, free}
 use Rattle.scope.specs.Image.{word, areas, instructions, constants, firstInstruction, firstCell, areaLength}
 use Rattle.scope.specs.Image.{instructionAt, instructionOf, constantAt}
 use Rattle.scope.specs.Checks.{tab, boundsOf, WellFormed}
-use Rattle.scope.specs.Holding.{constantOf, insOf, textOf, controlWords, dataWords, Keeps}
+use Rattle.scope.specs.Holding.{constantOf, insOf, textOf, controlWords, Keeps}
 use Rattle.scope.specs.Reach.{Global, Named, by-operand, by-constant, by-temporary, by-control, Leads, lies, Chain, starts, goes-on, InReach, Report}
 use Rattle.cells.specs.Rows.{cells, Bytes}
 use Rattle.scope.proofs.Tabs.{length-tab, is-tab, map-tab, tab-same}
-use Rattle.cells.proofs.Laws.{getD-cells}
-use Rattle.stacks.specs.Stack.{room}
 use Rattle.stacks.proofs.Laws.{reverse-stk}
 use Rattle.packed.specs.Packed.{Packed}
-use Rattle.states.specs.Lengths.{Sized}
+use Rattle.cells.specs.Rows.{Sized}
 use Rattle.link.proofs.Lists.{map-reverse, map-get}
 use Rattle.link.proofs.Objects.{in-area}
-use Rattle.scope.proofs.Formed.{area-first, area-in, code-in, live}
-use Rattle.link.proofs.Texts.{ins-is, constant-is, length-in, bounded, in-text}
-use Rattle.link.proofs.Areas.{start, start-sum, data-get}
-use Rattle.link.proofs.Held.{Sees, holds-sees}
-use Rattle.link.proofs.Formed.{fitting, used-cells, used-words}
+use Rattle.scope.proofs.Formed.{code-in, live}
+use Rattle.link.proofs.Texts.{ins-is, constant-is, bounded, in-text}
+use Rattle.link.proofs.Held.{Sees}
+use Rattle.link.proofs.Theorems as T
+use Rattle.link.proofs.Theorems.{cells-seen}
 use Rattle.sealed.proofs.Chains.{chain-bound}
 use Rattle.reach.specs.Marks.{Uses, one, other, Names, Edge, Comes, named, along, Exactly}
 use Rattle.reach.proofs.Parts.{belongs}
@@ -61,11 +59,7 @@ module _ (b : List ℕ) (w : WellFormed b) (y : Bytes b) where
     D = s .areas
 
     seen : Sees r d t c s
-    seen =
-        holds-sees r d t c s (fitting b w y s (k .proper))
-        (omega (arith, z .temporary, used-cells b w y s (k .proper)))
-        (omega (arith, z .control, used-words b w y s (k .proper)))
-        (k .holds)
+    seen = cells-seen b w y r d t c z s k
 
     temporary-are : tab (λ i. cellFrom t (0 + 8 * i)) (r .temporary) ≡ map cellOf (reverse (s .temp))
     temporary-are =
@@ -80,19 +74,12 @@ module _ (b : List ℕ) (w : WellFormed b) (y : Bytes b) where
     -- ---- areas
 
     area-long : (a : ℕ) → a < areas b → length (area D a) ≡ areaLength b a
-    area-long = length-in b w y D (k .proper .lengths)
+    area-long = T.area-long b w y r d t c z s k
 
     area-at : (a j : ℕ) → a < areas b → j < areaLength b a → cellFrom d (8 * firstCell b a + 8 * j) ≡ cellOf (getD (area D a) j none)
     area-at a j l h =
-        let i : firstCell b a + j < room d = omega (arith, area-in b w a j l h, z .areas) in
         let e : 8 * firstCell b a + 8 * j ≡ 8 * (firstCell b a + j) = omega arith in
-        let f : firstCell b a + j ≡ start D a + j =
-        ap (λ (x : ℕ). x + j) (area-first b w a l ∙ start-sum (areaLength b) D (areas b) area-long a (omega arith)) in
-        ap (λ (at : ℕ). cellFrom d at) e
-        ∙ sym (getD-cells (room d) (firstCell b a + j) d i)
-        ∙ ap (λ (p : Packed). getD (p .areas) (firstCell b a + j) free) (seen .cells)
-        ∙ ap (λ (x : ℕ). getD (dataWords D) x free) f
-        ∙ data-get D a j (rw (area-long a l) h)
+        ap (λ (at : ℕ). cellFrom d at) e ∙ T.area-cell b w y r d t c z s k a j l h
 
     area-are : (a : ℕ) → a < areas b → tab (λ i. cellFrom d (8 * firstCell b a + 8 * i)) (areaLength b a) ≡ map cellOf (area D a)
     area-are a l =

@@ -15,7 +15,7 @@ use Rattle.scope.specs.Reach.{Report}
 use Rattle.image.specs.declared.Counts.{Counts}
 use Rattle.image.specs.declared.Offsets.{Offsets}
 use Rattle.image.specs.Laid.{Accepted}
-use Rattle.states.specs.Lengths.{Sized}
+use Rattle.cells.specs.Rows.{Sized}
 use Rattle.reach.specs.Marks.{Points, InText, InStacks, Names, Edge, Comes, Marked, Marking, Ready, Cleared, Added, Exactly, Data, Stacks, Used}
 use Rattle.reach.proofs.Laws.{both, from-nothing}
 use Rattle.reach.proofs.Parts.{objects-ready}

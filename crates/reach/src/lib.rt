@@ -7,7 +7,7 @@ ghost use Rattle.scope.specs.States.{StateOk};
 ghost use Rattle.scope.specs.Holding.{textOf, Keeps};
 ghost use Rattle.scope.specs.Reach.{Report};
 ghost use Rattle.image.specs.Laid.{Laid, Counted, Accepted};
-ghost use Rattle.states.specs.Lengths.{Sized};
+ghost use Rattle.cells.specs.Rows.{Sized};
 ghost use Rattle.reach.specs.Marks.{Is, Addr, global, Operand, Points, Uses, InText, InStacks, Edge, Comes, Marked};
 ghost use Rattle.reach.specs.Marks.{Marking, Ready, Cleared, Added, Union, Next, Round, Exactly, Data, Stacks};
 ghost use Rattle.reach.specs.Marks.{Names, Used};

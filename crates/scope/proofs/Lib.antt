@@ -4,3 +4,4 @@ pub mod Worked
 pub mod Objects
 pub mod Tabs
 pub mod Formed
+pub mod Numbers

@@ -12,11 +12,12 @@ use Rattle.scope.specs.declared.Checked.{Checked}
 use Rattle.scope.specs.declared.Checked.the-variants.{Fine, Refused}
 use Rattle.scope.specs.Image.{programField, temps, areas, dataCells, controlLimit, temporaryLimit}
 use Rattle.scope.specs.Checks.{Test, test, firstFailing}
-use Rattle.scope.specs.Calls.{bufferTests}
+use Rattle.scope.specs.Calls.{bufferTests, SameLengths}
 use Rattle.scope.proofs.Tests.{tests, pass, fail, none-left, then-fine, then-refused, head-fine}
 use Rattle.image.specs.declared.Counts.{Counts}
 use Rattle.image.specs.Laid.{Counted}
-use Rattle.states.specs.Lengths.{lengthTests, Sized}
+use Rattle.states.specs.Lengths.{lengthTests}
+use Rattle.cells.specs.Rows.{Sized}
 
 -- ---- bytes in whole cells
 
@@ -95,3 +96,8 @@ bottom-room b d t c v e f =
 pub report-room : (b : List ℕ) (d t c k : ℕ) (v : Checked) → v ≡ firstFailing (bufferTests b d t c (test 18 4 (eqb k (areas b)) ∷ [])) → v ≡ Fine
     → k ≡ areas b
 report-room b d t c k v e f = eqb-true k (areas b) (head-fine _ 18 4 [] (three-held b d t c _ v e f .3) .0)
+
+-- buffers that keep their lengths
+pub still-sized : (b d t c d′ t′ c′ : List ℕ) → Sized b d t c → SameLengths d t c d′ t′ c′ → Sized b d′ t′ c′
+still-sized b d t c d′ t′ c′ z h =
+    record { areas = h .areas ∙ z .areas; temporary = h .temporary ∙ z .temporary; control = h .control ∙ z .control }

@@ -13,7 +13,7 @@ use Rattle.scope.specs.States.{Frames, StateOk, errorCode}
 use Rattle.scope.proofs.Bools.{clash, and-both, both-and}
 use Rattle.image.specs.declared.Counts.{Counts}
 use Rattle.image.specs.Laid.{Counted}
-use Rattle.states.specs.Lengths.{Sized}
+use Rattle.cells.specs.Rows.{Sized}
 use Rattle.states.specs.Parts.{Decides, AllObjects, Stack, Buffers, registersOk}
 use Rattle.states.proofs.Rooms.{fails}
 

@@ -1,10 +1,7 @@
--- The tests of the buffers' lengths by counts that were read, and buffers that pass them. Nothing here has to be believed.
-use mathlib.Core.Path.{_≡_}
+-- The tests of the buffers' lengths by counts that were read. Nothing here has to be believed.
 use mathlib.Core.List.{List, _∷_}
 use Prim.Native.Nat.{ℕ, _*_}
 use lib.Dec.{eqb}
-use lib.ListN.{length}
-use Rattle.scope.specs.Image.{dataCells, controlLimit, temporaryLimit}
 use Rattle.scope.specs.Checks.{Test, test}
 use Rattle.image.specs.declared.Counts.{Counts}
 
@@ -12,9 +9,3 @@ use Rattle.image.specs.declared.Counts.{Counts}
 unfoldable pub lengthTests : Counts → ℕ → ℕ → ℕ → List Test → List Test
 lengthTests n d t c more =
     test 18 0 (eqb d (8 * n .cells)) ∷ test 18 1 (eqb t (8 * n .temporary)) ∷ test 18 2 (eqb c (8 * n .control)) ∷ more
-
--- "The three lent buffers hold exactly 8·D, 8·T and 8·C bytes."
-pub record Sized (b d t c : List ℕ) : Type 0 where
-  pub areas : length d ≡ 8 * dataCells b
-  pub temporary : length t ≡ 8 * temporaryLimit b
-  pub control : length c ≡ 8 * controlLimit b

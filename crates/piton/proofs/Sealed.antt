@@ -27,7 +27,8 @@ use Rattle.states.proofs.Lengths.{still-sized}
 use Rattle.link.proofs.Same.{same-word, area-same, same-text, same-lengths}
 use Rattle.link.proofs.Unique.{bare, AllTold, SameRest, same-rest, same-area}
 use Rattle.link.proofs.Theorems.{cells-seen, area-long, area-cell, told}
-use Rattle.sealed.specs.Agree.{Drawn, EqualBut, SealedBy}
+use Rattle.sealed.specs.Agree.{Drawn}
+use Rattle.sealed.specs.Reported.{EqualBut, SealedBy}
 use Rattle.sealed.proofs.Drawn.{drawn}
 use Rattle.sealed.proofs.Demand.{same-count}
 use Rattle.sealed.proofs.Report.{report-agree, demand-3-report}

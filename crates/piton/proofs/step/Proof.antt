@@ -1,4 +1,4 @@
-use Rattle.piton.proofs.Laws.{run-steps}
+use Rattle.calls.proofs.Laws.{run-steps}
 use borrow.Author.Needs.{needs}
 use Rattle.piton.proofs.step.Statement.{statement}
 use Rattle.piton.proofs.step.Tie as tie

@@ -29,7 +29,7 @@ use Rattle.states.specs.Lengths.{lengthTests}
 use Rattle.cells.specs.Rows.{Sized}
 use Rattle.states.specs.Parts.{Decides}
 use Rattle.states.proofs.Lengths.{by-counts, by-counts-report, report-room, sized}
-use Rattle.piton.specs.Answers.{refusedLoad, refusedRun, answerOfStatus, RanWell}
+use Rattle.calls.specs.Answers.{refusedLoad, refusedRun, answerOfStatus, RanWell}
 
 -- ---- load
 

@@ -1,11 +1,11 @@
-use Rattle.piton.proofs.Laws.{runs}
+use Rattle.calls.proofs.Laws.{runs}
 use borrow.Author.Needs.{needs}
-use Rattle.piton.proofs.run_sized.Statement.{statement}
-use Rattle.piton.proofs.run_sized.Tie as tie
-use Rattle.piton.proofs.run_sized.Reads as reads
-use Rattle.piton.proofs.run_sized.Lts as lts
-use Rattle.piton.proofs.refused_run.Reads as refused-run-reads
-use Rattle.piton.proofs.run_state.Reads as run-state-reads
+use Rattle.calls.proofs.run_sized.Statement.{statement}
+use Rattle.calls.proofs.run_sized.Tie as tie
+use Rattle.calls.proofs.run_sized.Reads as reads
+use Rattle.calls.proofs.run_sized.Lts as lts
+use Rattle.calls.proofs.refused_run.Reads as refused-run-reads
+use Rattle.calls.proofs.run_state.Reads as run-state-reads
 use Rattle.states.proofs.state_ok.Reads as state-ok-reads
 
 state-ok-requires : tie.Need-state-ok-requires

@@ -1,10 +1,10 @@
-use Rattle.piton.proofs.Running.{running}
+use Rattle.calls.proofs.Running.{running}
 use borrow.Author.Needs.{needs}
-use Rattle.piton.proofs.run_state.Statement.{statement}
-use Rattle.piton.proofs.run_state.Tie as tie
-use Rattle.piton.proofs.run_state.Reads as reads
-use Rattle.piton.proofs.run_state.Lts as lts
-use Rattle.piton.proofs.answer_of.Reads as answer-of-reads
+use Rattle.calls.proofs.run_state.Statement.{statement}
+use Rattle.calls.proofs.run_state.Tie as tie
+use Rattle.calls.proofs.run_state.Reads as reads
+use Rattle.calls.proofs.run_state.Lts as lts
+use Rattle.calls.proofs.answer_of.Reads as answer-of-reads
 use Rattle.runs.proofs.run.Reads as run-reads
 
 run-requires : tie.Need-run-requires

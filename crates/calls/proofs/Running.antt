@@ -33,7 +33,7 @@ use Rattle.runs.specs.Sound.{Sound, Runnable}
 use Rattle.runs.specs.Ran as R
 use Rattle.states.proofs.Lengths.{still-sized}
 use Rattle.cells.specs.Rows.{Sized}
-use Rattle.piton.specs.Answers.{answerOfStatus, RanWell}
+use Rattle.calls.specs.Answers.{answerOfStatus, RanWell}
 
 module _ (b : List ℕ) (w : WellFormed b) (y : Bytes b) where
   -- the top frame of a proper p-state

@@ -1,9 +1,9 @@
-use Rattle.piton.proofs.Laws.{reports}
+use Rattle.calls.proofs.Laws.{reports}
 use borrow.Author.Needs.{needs}
-use Rattle.piton.proofs.reach_sized.Statement.{statement}
-use Rattle.piton.proofs.reach_sized.Tie as tie
-use Rattle.piton.proofs.reach_sized.Reads as reads
-use Rattle.piton.proofs.reach_sized.Lts as lts
+use Rattle.calls.proofs.reach_sized.Statement.{statement}
+use Rattle.calls.proofs.reach_sized.Tie as tie
+use Rattle.calls.proofs.reach_sized.Reads as reads
+use Rattle.calls.proofs.reach_sized.Lts as lts
 use Rattle.reach.proofs.report.Reads as report-reads
 use Rattle.states.proofs.state_ok.Reads as state-ok-reads
 

@@ -1,0 +1,14 @@
+use Rattle.calls.specs.Answers.{refusedLoad}
+use mathlib.Core.Path.{refl}
+use borrow.Author.Needs.{needs}
+use Rattle.calls.proofs.refused_load.Statement.{statement}
+use Rattle.calls.proofs.refused_load.Tie as tie
+use Rattle.calls.proofs.refused_load.Reads as reads
+use Rattle.calls.proofs.refused_load.Lts as lts
+
+returns : tie.Need-returns
+unfolding refusedLoad
+returns c = refl
+
+pub refused-load-spec : {M : Type 1} → statement M
+refused-load-spec = tie.close (tie.spec returns)

@@ -11,14 +11,13 @@ use Rattle.moore.specs.Machine.{Frame, State, Psw, run, halt, error, P}
 use Rattle.moore.specs.Proper.{ProperObj, ProperFrames}
 use Rattle.moore.proofs.Lists.{all-inside}
 use Rattle.scope.specs.declared.Registers.{Registers}
-use Rattle.scope.specs.Cells.{cellOf, free}
+use Rattle.scope.specs.Cells.{cellOf, free, Bytes}
 use Rattle.scope.specs.Image.{programs, locals}
 use Rattle.scope.specs.Checks.{boundsOf, WellFormed}
 use Rattle.scope.specs.States.{StateOk}
 use Rattle.scope.specs.Holding.{textOf, baseOf, controlWords, statusOf, Proper, Keeps}
 use Rattle.scope.specs.Calls.{Count, answerOf}
 use Rattle.states.proofs.Lengths.{still-sized}
-use Rattle.cells.specs.Rows.{Bytes}
 use Rattle.packed.specs.Packed.{Packed, steps}
 use Rattle.link.specs.Pack.{pack, Lent}
 use Rattle.link.proofs.Lists.{map-get}

@@ -8,9 +8,9 @@ use native.Mathlib.Decide.{decLt}
 use lib.ListN.{length, getD, length-append, List·getD-eq-default}
 use lib.Seq.{getD-append-add}
 use Rattle.scope.specs.declared.Cell.{Cell}
-use Rattle.scope.specs.Cells.{u16At, u32At, cellAt, bytesOf, free}
+use Rattle.scope.specs.Cells.{u16At, u32At, cellAt, bytesOf, free, Bytes}
 use Rattle.scope.specs.Holding.{inBytes, zeros, buffer}
-use Rattle.cells.specs.Rows.{cells, Fit, Fits, Bytes}
+use Rattle.cells.specs.Rows.{cells, Fit, Fits}
 use Rattle.cells.proofs.Octets.{first-cell, cell-by-bytes}
 use Rattle.cells.proofs.Laws.{length-cells, getD-cells, are-cells, same-bytes, fits-cells}
 

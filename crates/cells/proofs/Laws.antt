@@ -8,8 +8,8 @@ use native.Mathlib.Decide.{decLt, ℕ-discrete}
 use lib.ListN.{length, getD, set, take, length-set, List·getD-eq-default}
 use lib.Seq.{sets, length-sets, length-take-le, getD-set-same, getD-set-other, getD-take, ext-getD}
 use Rattle.scope.specs.declared.Cell.{Cell}
-use Rattle.scope.specs.Cells.{u16At, u32At, cellFrom, cellAt, bytesOf, free}
-use Rattle.cells.specs.Rows.{putAt, cells, cellsFrom, Fit, Fits, Bytes}
+use Rattle.scope.specs.Cells.{u16At, u32At, cellFrom, cellAt, bytesOf, free, Bytes}
+use Rattle.cells.specs.Rows.{putAt, cells, cellsFrom, Fit, Fits}
 use Rattle.scope.proofs.Tabs.{length-tab, getD-tab, tab-snoc, is-tab}
 use Rattle.cells.proofs.Octets.{sets-below, sets-above, sets-in, cell-of-bytes, bytes-of-cell, cell-by-bytes}
 

@@ -6,8 +6,8 @@ use native.Mathlib.Omega.{arith}
 use lib.ListN.{length, getD, set, length-set}
 use lib.Seq.{sets, getD-set-same, getD-set-other}
 use Rattle.scope.specs.declared.Cell.{Cell}
-use Rattle.scope.specs.Cells.{u16At, u32At, cellAt, bytesOf}
-use Rattle.cells.specs.Rows.{putAt, Fit, Bytes}
+use Rattle.scope.specs.Cells.{u16At, u32At, cellAt, bytesOf, Bytes}
+use Rattle.cells.specs.Rows.{putAt, Fit}
 
 -- ---- stores in a row
 

@@ -33,12 +33,9 @@ pub record Fit (c : Cell) : Type 0 where
   pub name : c .name < 65536
   pub value : c .value < 4294967296
 
--- a list of cells that fit; a list of bytes, as every slice of the code is
+-- a list of cells that fit
 abbrev pub Fits : List Cell → Type 0
 Fits cs = (i : ℕ) → Fit (getD cs i free)
-
-abbrev pub Bytes : List ℕ → Type 0
-Bytes b = (m : ℕ) → getD b m 0 < 256
 
 -- "The three lent buffers hold exactly 8·D, 8·T and 8·C bytes."
 pub record Sized (b d t c : List ℕ) : Type 0 where

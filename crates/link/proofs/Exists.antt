@@ -12,14 +12,14 @@ use Rattle.moore.specs.Machine.{State, Frame, Psw, run, halt, error, ctrl-size}
 use Rattle.moore.specs.Proper.{All, count, ProperObj, ProperFrame, ProperFrames}
 use Rattle.scope.specs.declared.Cell.{Cell}
 use Rattle.scope.specs.declared.Registers.{Registers}
-use Rattle.scope.specs.Cells.{cell, cellAt, cellOf, objectp}
+use Rattle.scope.specs.Cells.{cell, cellAt, cellOf, objectp, Bytes}
 use Rattle.scope.specs.Image as I
 use Rattle.scope.specs.Image.{word, programs, areas, dataCells, controlLimit, temporaryLimit, instructionCount, temps, firstTemp, firstCell}
 use Rattle.scope.specs.Image.{areaLength, instructionOf, dataCellAt}
 use Rattle.scope.specs.Checks.{tab, sum, boundsOf, WellFormed}
 use Rattle.scope.specs.States.{Frames, bottom, above, Objects, StateOk}
 use Rattle.scope.specs.Holding.{object, constantOf, textOf, initial, baseOf, controlWords, dataWords, statusOf, errorOf, lengthsOf, Proper}
-use Rattle.cells.specs.Rows.{cells, Bytes}
+use Rattle.cells.specs.Rows.{cells}
 use Rattle.scope.proofs.Tabs.{length-tab, tab-snoc, map-tab, tab-same, tab-append, all-tab}
 use Rattle.cells.proofs.Laws.{length-cells, cells-none, fit-cell, fit-from}
 use Rattle.stacks.specs.Stack.{room, stk}

@@ -12,13 +12,13 @@ use Rattle.moore.specs.Proper.{All, count, ProperObj, ProperFrames}
 use Rattle.moore.proofs.Lists.{all-append, all-reverse, all-inside}
 use Rattle.scope.specs.declared.Cell.{Cell}
 use Rattle.scope.specs.declared.Registers.{Registers}
-use Rattle.scope.specs.Cells.{cell, free, cellAt, cellOf}
+use Rattle.scope.specs.Cells.{cell, free, cellAt, cellOf, Bytes}
 use Rattle.scope.specs.Image as I
 use Rattle.scope.specs.Image.{programs, dataCells, controlLimit, temporaryLimit, instructionCount, instructionOf}
 use Rattle.scope.specs.Checks.{boundsOf, WellFormed}
 use Rattle.scope.specs.States.{Frames, bottom, above, Objects, StateOk}
 use Rattle.scope.specs.Holding.{textOf, baseOf, frameWords, controlWords, dataWords, statusOf, errorOf, registersOf, Holds, Proper}
-use Rattle.cells.specs.Rows.{cells, Fits, Bytes}
+use Rattle.cells.specs.Rows.{cells, Fits}
 use Rattle.cells.proofs.Laws.{length-cells, getD-cells, take-cells, free-fits}
 use Rattle.stacks.specs.Stack.{room}
 use Rattle.stacks.proofs.Laws.{reverse-stk}

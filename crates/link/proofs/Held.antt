@@ -9,9 +9,9 @@ use Rattle.moore.specs.Objects.{Obj}
 use Rattle.moore.specs.Machine.{Frame, State, ctrl-size}
 use Rattle.scope.specs.declared.Cell.{Cell}
 use Rattle.scope.specs.declared.Registers.{Registers}
-use Rattle.scope.specs.Cells.{cellOf}
+use Rattle.scope.specs.Cells.{cellOf, Bytes}
 use Rattle.scope.specs.Holding.{frameWords, controlWords, dataWords, inBytes, buffer, Holds}
-use Rattle.cells.specs.Rows.{cells, Fits, Bytes}
+use Rattle.cells.specs.Rows.{cells, Fits}
 use Rattle.cells.proofs.Laws.{length-cells}
 use Rattle.cells.proofs.Buffers.{length-inBytes, cells-inBytes, inBytes-cells}
 use Rattle.stacks.specs.Stack.{room, stk}

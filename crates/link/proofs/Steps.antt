@@ -19,13 +19,12 @@ use Rattle.moore.proofs.Objects.{an-addr}
 use Rattle.moore.proofs.Proper.{legal-temp, proper-step}
 use Rattle.scope.specs.declared.Cell.{Cell}
 use Rattle.scope.specs.declared.Instruction.{Instruction}
-use Rattle.scope.specs.Cells.{cellOf, free}
+use Rattle.scope.specs.Cells.{cellOf, free, Bytes}
 use Rattle.scope.specs.Image as I
 use Rattle.scope.specs.Image.{programs, areas, instructionCount, formals, temps, firstTemp, firstCell, areaLength, controlLimit}
 use Rattle.scope.specs.Image.{temporaryLimit, instructionOf, kindOf, operandBound}
 use Rattle.scope.specs.Checks.{tab, boundsOf, casesOk, WellFormed}
 use Rattle.scope.specs.Holding.{baseOf, controlWords, dataWords, statusOf, errorOf, constantOf, insList, initialTemps, textOf, lengthsOf, Proper}
-use Rattle.cells.specs.Rows.{Bytes}
 use Rattle.scope.proofs.Tabs.{length-tab, getD-tab}
 use Rattle.ops.specs.declared.Made.the-variants.{Is, No}
 use Rattle.ops.specs.declared.Chosen.the-variants as C

@@ -14,7 +14,7 @@ use Rattle.moore.specs.Proper.{All, count, locals, ProperObj}
 use Rattle.moore.proofs.Texts.{ProperIns, ends, ProperText}
 use Rattle.scope.specs.declared.Cell.{Cell}
 use Rattle.scope.specs.declared.Instruction.{Instruction}
-use Rattle.scope.specs.Cells.{cellOf, cellFrom, objectOf}
+use Rattle.scope.specs.Cells.{cellOf, cellFrom, objectOf, Bytes}
 use Rattle.scope.specs.Image as I
 use Rattle.scope.specs.Image.{word, programs, areas, constants, instructionCount, formals, temps, firstTemp, areaLength}
 use Rattle.scope.specs.Image.{instructionOf, constantAt, kindOf, operandBound}
@@ -22,7 +22,7 @@ use Rattle.scope.specs.Checks as K
 use Rattle.scope.specs.Checks.{tab, boundsOf, everyCase, casesOk, WellFormed}
 use Rattle.scope.specs.Holding.{constantOf, insList, insOf, initialTemps, programOf, textOf, lengthsOf}
 use Rattle.scope.proofs.Bools.{and-both}
-use Rattle.cells.specs.Rows.{cellsFrom, Bytes}
+use Rattle.cells.specs.Rows.{cellsFrom}
 use Rattle.scope.proofs.Tabs.{length-tab, getD-tab, map-tab, tab-same, all-tab}
 use Rattle.cells.proofs.Laws.{fit-from}
 use Rattle.packed.specs.Packed.{tempCells}

@@ -12,13 +12,13 @@ use Rattle.moore.proofs.Texts.{ProperText}
 use Rattle.moore.proofs.Lists.{all-map}
 use Rattle.moore.proofs.Proper.{proper-steps}
 use Rattle.scope.specs.declared.Registers.{Registers}
-use Rattle.scope.specs.Cells.{cellAt, cellOf, free}
+use Rattle.scope.specs.Cells.{cellAt, cellOf, free, Bytes}
 use Rattle.scope.specs.Image.{areas, controlLimit, temps, firstCell, areaLength, instructionOf}
 use Rattle.scope.specs.Checks.{boundsOf, WellFormed}
 use Rattle.scope.specs.States.{StateOk}
 use Rattle.scope.specs.Holding.{textOf, initial, dataWords, Holds, lengthsOf, Proper, Keeps}
 use Rattle.scope.proofs.Formed.{area-first, area-in}
-use Rattle.cells.specs.Rows.{Bytes, Sized}
+use Rattle.cells.specs.Rows.{Sized}
 use Rattle.cells.proofs.Laws.{getD-cells}
 use Rattle.stacks.specs.Stack.{room}
 use Rattle.packed.specs.Packed.{Packed, sem, settle, step, steps, seen, Roomy}

@@ -4,9 +4,9 @@ use mathlib.Core.List.{List, map}
 use Prim.Native.Nat.{ℕ}
 use Rattle.moore.specs.Machine.{State}
 use Rattle.scope.specs.declared.Registers.{Registers}
-use Rattle.scope.specs.Cells.{cellOf}
+use Rattle.scope.specs.Cells.{cellOf, Bytes}
 use Rattle.scope.specs.Holding.{Keeps, baseOf, controlWords, dataWords, statusOf, errorOf}
-use Rattle.cells.specs.Rows.{Bytes, Sized}
+use Rattle.cells.specs.Rows.{Sized}
 use Rattle.packed.specs.Packed.{Packed}
 
 -- the cells of s, with another status and error code

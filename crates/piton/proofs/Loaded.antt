@@ -10,7 +10,7 @@ use Rattle.scope.specs.States.{StateOk}
 use Rattle.scope.specs.Holding.{initial, Keeps}
 use Rattle.scope.specs.Calls.{loadSays, Loads}
 use Rattle.scope.proofs.Tests.{both-fine}
-use Rattle.cells.specs.Rows.{Bytes}
+use Rattle.scope.specs.Cells.{Bytes}
 use Rattle.accept.proofs.Exact.{accepted-formed}
 use Rattle.states.proofs.Lengths.{still-sized, sized, bottom-room}
 use Rattle.link.specs.Pack.{Lent}

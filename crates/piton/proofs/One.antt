@@ -11,14 +11,13 @@ use Rattle.scope.specs.declared.Loaded.{Loaded}
 use Rattle.scope.specs.declared.Ran.{Ran}
 use Rattle.scope.specs.declared.Registers.{Registers}
 use Rattle.scope.specs.declared.Said.{Said}
-use Rattle.scope.specs.Cells.{cellOf}
+use Rattle.scope.specs.Cells.{cellOf, Bytes}
 use Rattle.scope.specs.Checks.{imageSays}
 use Rattle.scope.specs.States.{StateOk}
 use Rattle.scope.specs.Holding.{textOf, controlWords, buffer, Holds}
 use Rattle.scope.specs.Calls.{numberOf, placeOf, loadSays, runSays, reportSays, answerOf, Same, Loads, Runs, Steps, Reports}
 use Rattle.scope.specs.Calls.{StateSays, before, ill-formed, well-formed}
 use Rattle.scope.proofs.Tests.{both-fine}
-use Rattle.cells.specs.Rows.{Bytes}
 use Rattle.accept.proofs.Exact.{accepted-formed}
 use Rattle.cells.specs.Rows.{Sized}
 use Rattle.states.proofs.Lengths.{sized}

@@ -11,7 +11,7 @@ use Rattle.scope.specs.declared.Checked.the-variants.{Fine}
 use Rattle.scope.specs.declared.Ran.{Ran}
 use Rattle.scope.specs.declared.Registers.{Registers}
 use Rattle.scope.specs.declared.Said.{Said}
-use Rattle.scope.specs.Cells.{cellAt, cellOf}
+use Rattle.scope.specs.Cells.{cellAt, cellOf, Bytes}
 use Rattle.scope.specs.Image.{areas, firstCell, areaLength}
 use Rattle.scope.specs.Checks.{WellFormed}
 use Rattle.scope.specs.Reach.{Report}
@@ -20,7 +20,7 @@ use Rattle.scope.specs.Calls.{answerOf, Count, Runs, Reports}
 use Rattle.scope.specs.Sealed.{SameBefore, SameArea, EqualInputs, EqualEnds}
 use Rattle.scope.proofs.Numbers.{run-taken, report-taken}
 use Rattle.scope.proofs.Tabs.{length-tab}
-use Rattle.cells.specs.Rows.{Bytes, Sized}
+use Rattle.cells.specs.Rows.{Sized}
 use Rattle.packed.specs.Packed.{seen}
 use Rattle.accept.proofs.Exact.{accepted-formed}
 use Rattle.states.proofs.Lengths.{still-sized}

@@ -9,13 +9,13 @@ use Rattle.moore.specs.Objects.{Obj, none, addr}
 use Rattle.moore.specs.Machine.{Ins, ret, State, program, insAt, area}
 use Rattle.moore.specs.Proper.{count}
 use Rattle.scope.specs.declared.Registers.{Registers}
-use Rattle.scope.specs.Cells.{cellFrom, cellAt, cellOf, free}
+use Rattle.scope.specs.Cells.{cellFrom, cellAt, cellOf, free, Bytes}
 use Rattle.scope.specs.Image.{word, areas, instructions, constants, firstInstruction, firstCell, areaLength}
 use Rattle.scope.specs.Image.{instructionAt, instructionOf, constantAt}
 use Rattle.scope.specs.Checks.{tab, boundsOf, WellFormed}
 use Rattle.scope.specs.Holding.{constantOf, insOf, textOf, controlWords, Keeps}
 use Rattle.scope.specs.Reach.{Global, Named, by-operand, by-constant, by-temporary, by-control, Leads, lies, Chain, starts, goes-on, InReach, Report}
-use Rattle.cells.specs.Rows.{cells, Bytes}
+use Rattle.cells.specs.Rows.{cells}
 use Rattle.scope.proofs.Tabs.{length-tab, is-tab, map-tab, tab-same}
 use Rattle.stacks.proofs.Laws.{reverse-stk}
 use Rattle.packed.specs.Packed.{Packed}

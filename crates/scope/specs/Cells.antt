@@ -1,12 +1,16 @@
 -- Numbers and cells in bytes, and the object of a cell (01, "Objects").
 use mathlib.Core.List.{List, [], _∷_, _++_}
 use mathlib.Core.Bool.{Bool, false, _&&_}
-use Prim.Native.Nat.{ℕ, zero, suc, _+_, _-_, _*_, _/_, _%_, _^_}
+use Prim.Native.Nat.{ℕ, zero, suc, _+_, _-_, _*_, _/_, _%_, _^_, _<_}
 use lib.Dec.{ltb, leb, eqb}
 use lib.IntN.{ℤ, pos, negsuc}
 use lib.ListN.{length, getD}
 use Rattle.moore.specs.Objects.{Obj, nat, int, bitv, bool, addr, pc, subr, choose}
 use Rattle.scope.specs.declared.Cell.{Cell}
+
+-- a list of bytes, as every lent slice is
+abbrev pub Bytes : List ℕ → Type 0
+Bytes b = (i : ℕ) → getD b i 0 < 256
 
 -- "All numbers are little-endian."
 unfoldable pub u16At : List ℕ → ℕ → ℕ

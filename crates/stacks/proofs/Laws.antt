@@ -8,9 +8,9 @@ use native.Mathlib.Decide.{ℕ-discrete}
 use lib.ListN.{length, getD, set, take, drop}
 use lib.Seq.{drop-drop}
 use Rattle.scope.specs.declared.Cell.{Cell}
-use Rattle.scope.specs.Cells.{cellAt, cellFrom, free}
+use Rattle.scope.specs.Cells.{cellAt, cellFrom, free, Bytes}
 use Rattle.scope.specs.Holding.{buffer}
-use Rattle.cells.specs.Rows.{putAt, cells, cellsFrom, Fit, Fits, Bytes}
+use Rattle.cells.specs.Rows.{putAt, cells, cellsFrom, Fit, Fits}
 use Rattle.cells.proofs.Laws.{length-putAt, get-put-same, get-put-other, free-fits}
 use Rattle.cells.proofs.Laws.{cells-put, cells-none, cells-snoc, length-cells, take-cells, from-none, from-snoc}
 use Rattle.cells.proofs.Buffers.{is-buffer, buffer-above, cells-buffer}

@@ -9,13 +9,13 @@ use mir.Syntax.{w8}
 use mir.Val.{Fits}
 use Rattle.moore.specs.Objects.{Obj}
 use Rattle.scope.specs.declared.Cell.{Cell}
-use Rattle.scope.specs.Cells.{cellFrom, cell, cellOf}
+use Rattle.scope.specs.Cells.{cellFrom, cell, cellOf, Bytes}
 use Rattle.scope.specs.Image.{word, areas, constants, dataCells, controlLimit, programField, temps, firstTemp, firstCell, areaLength}
 use Rattle.scope.specs.Image.{constantAt, dataCellAt}
 use Rattle.scope.specs.Checks.{tab, sum, boundsOf, WellFormed}
 use Rattle.scope.specs.Holding.{object, constantOf, initialTemps, areaOf, initial, inBytes, buffer, controlWords, dataWords, Holds}
 use Rattle.scope.specs.Calls.{SameLengths}
-use Rattle.cells.specs.Rows.{cells, cellsFrom, Bytes}
+use Rattle.cells.specs.Rows.{cells, cellsFrom}
 use Rattle.scope.proofs.Tabs.{length-tab, tab-snoc, map-tab, tab-same, tab-append}
 use Rattle.cells.proofs.Laws.{cells-none, fit-from}
 use Rattle.cells.proofs.Buffers.{inBytes-cells}

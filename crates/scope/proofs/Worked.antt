@@ -14,7 +14,8 @@ use Rattle.scope.specs.Cells.{u16At, u32At, intFrom, cellOf, objectOf, r
 use Rattle.scope.specs.Image.{word, programField, areaField, instructionAt, kindOf, conditionsOf, operandBound}
 use Rattle.scope.specs.Checks.{boundsOf, programTests, areaTests, cellTests, codeTests, firstFailing, ranges, sections, programOk, areaOk, casesOk, ends, instructionOk, imageTests, imageSays}
 use Rattle.scope.specs.Holding.{insOf, textOf, initial}
-use Rattle.scope.specs.Calls.{Count, printed}
+use Rattle.scope.specs.Calls.{Count}
+use Rattle.scope.specs.Printing.{printed}
 
 abbrev words : List ℕ → List ℕ
 words [] = []

@@ -6,3 +6,4 @@ pub mod States
 pub mod Holding
 pub mod Reach
 pub mod Calls
+pub mod Printing

@@ -1,23 +1,20 @@
 -- The lines: what the calls write one behind the other is what is printed.
 use mathlib.Core.Path.{_≡_, refl, sym, ap, subst, _∙_}
 use mathlib.Core.List.{List, [], _∷_, _++_, append-assoc, append-nil}
-use mathlib.Core.Bool.{Bool, true, false}
-use Prim.Native.Nat.{ℕ, zero, suc, _+_, _*_, _/_, _<_, _≤_, min}
+use Prim.Native.Nat.{ℕ, suc, _+_, _/_, _<_}
 use native.Mathlib.Omega.{arith}
 use native.Mathlib.Numerals.{add-one}
 use borrow.Author.Tests.{eq-eqb, ne-eqb, lt-leb}
-use lib.Dec.{eqb, leb}
 use lib.ListN.{length, take, length-take}
 use Rattle.moore.specs.Objects.{choose}
 use Rattle.moore.specs.Machine.{State, Psw, run, halt, error, P}
 use Rattle.scope.specs.declared.Cell.{Cell}
 use Rattle.scope.specs.declared.Checked.the-variants.{Refused}
 use Rattle.scope.specs.declared.Ran.{Ran}
-use Rattle.scope.specs.declared.Registers.{Registers}
 use Rattle.scope.specs.Cells.{cellAt}
 use Rattle.scope.specs.Holding.{textOf, initial, statusOf, registersOf, dataWords}
 use Rattle.scope.specs.Calls.{noRegisters, answerOf}
-use Rattle.scope.specs.Printing.{decimal, cellLines, line, inLines, printed, printedRefusal, inputSays, Writes}
+use Rattle.scope.specs.Printing.{cellLines, line, inLines, printed, printedRefusal, inputSays, Writes}
 use Rattle.scope.specs.Printing as Printing
 use Rattle.cells.specs.Rows.{cells}
 use Rattle.cells.proofs.Laws.{cells-none, cells-snoc, length-cells}

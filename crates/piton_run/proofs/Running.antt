@@ -1,11 +1,9 @@
 -- Load and run, from the contracts of the library's calls: buffers of the lengths that an accepted image asks for, and what is left.
 use mathlib.Core.Path.{_≡_, refl, sym, ap, _∙_}
 use mathlib.Core.List.{List, [], _∷_}
-use mathlib.Core.Bool.{true}
-use Prim.Native.Nat.{ℕ, _+_, _*_, _/_, _<_, _≤_, min}
+use Prim.Native.Nat.{ℕ, _*_, _<_, _≤_}
 use native.Mathlib.Omega.{arith}
 use borrow.Author.Tests.{eq-eqb, le-leb}
-use lib.Dec.{eqb, leb}
 use lib.ListN.{length, take, getD, length-take}
 use mir.Val.{Fits}
 use mir.Syntax.{w8}
@@ -19,7 +17,7 @@ use Rattle.scope.specs.declared.Registers.{Registers}
 use Rattle.scope.specs.Image.{dataCells, controlLimit, temporaryLimit}
 use Rattle.scope.specs.Checks.{test, firstFailing, lengthOk, ranges, imageTests, imageSays}
 use Rattle.scope.specs.States.{StateOk}
-use Rattle.scope.specs.Holding.{textOf, initial, Keeps}
+use Rattle.scope.specs.Holding.{textOf, initial}
 use Rattle.scope.specs.Calls.{numberOf, placeOf, andThen, loadSays, runSays, noRegisters, StateSays, before, ill-formed, well-formed, Loads, Runs}
 use Rattle.scope.specs.Printing.{budget, inputSays}
 use Rattle.scope.proofs.Tests.{append-fine, both-fine}
@@ -37,7 +35,7 @@ use Rattle.packed.specs.Packed.{Packed}
 use Rattle.piton.specs.Answers.{refusedRun}
 use Rattle.piton.proofs.Loaded.{loaded-well}
 use Rattle.piton_run.specs.declared.Lengths.{Lengths}
-use Rattle.piton_run.specs.Whole.{Asked, Fitting, RanWhole, refused, ran}
+use Rattle.piton_run.specs.Whole.{BytesFor, Asked, Fitting, RanWhole, refused, ran}
 
 -- ---- the lengths that are asked for
 
@@ -47,43 +45,32 @@ in-range b e =
     let x = append-fine (test 11 0 (lengthOk b) ∷ []) _ e in
     ranged b (firstFailing (ranges b)) refl (append-fine (ranges b) _ (x .1) .0)
 
--- nothing, if the image is refused
-not-asked : (b : List ℕ) → (imageSays b ≡ Fine → ⊥) → Asked b (record { areas = 0; temporary = 0; control = 0 })
-not-asked b h = record { areas = omega arith; temporary = omega arith; control = omega arith; right = λ e. absurd (h e) }
+pub asked-none : (b : List ℕ) → length b < 52 → Asked b (record { areas = 0; temporary = 0; control = 0 })
+asked-none b h =
+    record {
+      areas = omega arith;
+      temporary = omega arith;
+      control = omega arith;
+      right = λ e. absurd (omega (arith, accepted-long b e));
+    }
 
-pub asked-short : (b : List ℕ) → length b < 52 → Asked b (record { areas = 0; temporary = 0; control = 0 })
-asked-short b h = not-asked b (λ e. omega (arith, accepted-long b e))
-
-module _ (b : List ℕ) (n : Counts) (k : n ≡ countsOf b) where
-  cells-are : n .cells ≡ dataCells b
-  cells-are = ap (λ (x : Counts). x .cells) k
-
-  temporary-is : n .temporary ≡ temporaryLimit b
-  temporary-is = ap (λ (x : Counts). x .temporary) k
-
-  control-is : n .control ≡ controlLimit b
-  control-is = ap (λ (x : Counts). x .control) k
-
-  pub asked-cells : 2048 < n .cells → Asked b (record { areas = 0; temporary = 0; control = 0 })
-  asked-cells h = not-asked b (λ e. omega (arith, in-range b e .cells, cells-are))
-
-  pub asked-temporary : 1024 < n .temporary → Asked b (record { areas = 0; temporary = 0; control = 0 })
-  asked-temporary h = not-asked b (λ e. omega (arith, in-range b e .temporary, temporary-is))
-
-  pub asked-control : 2048 < n .control → Asked b (record { areas = 0; temporary = 0; control = 0 })
-  asked-control h = not-asked b (λ e. omega (arith, in-range b e .control .1, control-is))
-
-  pub asked-right : n .cells ≤ 2048 → n .temporary ≤ 1024 → n .control ≤ 2048
-      → Asked b (record { areas = 8 * n .cells; temporary = 8 * n .temporary; control = 8 * n .control })
-  asked-right x y z =
-      record {
-        areas = omega arith;
-        temporary = omega arith;
-        control = omega arith;
-        right = λ e. (omega (arith, cells-are), omega (arith, temporary-is), omega (arith, control-is));
-      }
-
-pub ruleset asking = (asked-short, asked-cells, asked-temporary, asked-control, asked-right, arith)
+pub asked-right : (b : List ℕ) (n : Counts) (d t c : ℕ) → n ≡ countsOf b → BytesFor (n .cells) 2048 d → BytesFor (n .temporary) 1024 t
+    → BytesFor (n .control) 2048 c → Asked b (record { areas = d; temporary = t; control = c })
+asked-right b n d t c k x y z =
+    record {
+      areas = omega (arith, x .within);
+      temporary = omega (arith, y .within);
+      control = omega (arith, z .within);
+      right = λ e.
+          let r = in-range b e in
+          let cells-are : n .cells ≡ dataCells b = ap (λ (m : Counts). m .cells) k in
+          let temporary-is : n .temporary ≡ temporaryLimit b = ap (λ (m : Counts). m .temporary) k in
+          let control-is : n .control ≡ controlLimit b = ap (λ (m : Counts). m .control) k in (
+            x .right (omega (arith, r .cells)) ∙ ap (λ (m : ℕ). 8 * m) cells-are,
+            y .right (omega (arith, r .temporary)) ∙ ap (λ (m : ℕ). 8 * m) temporary-is,
+            z .right (omega (arith, r .control .1)) ∙ ap (λ (m : ℕ). 8 * m) control-is,
+          );
+    }
 
 -- what is cut to these lengths has them, and fits
 pub cut : (n : ℕ) (l : List ℕ) → n ≤ length l → n ≡ length (take n l)

@@ -7,7 +7,7 @@ ghost use Rattle.scope.specs.Calls.{noRegisters};
 ghost use Rattle.cells.specs.Rows.{cells};
 ghost use Rattle.lines.specs.Written.{Wrote};
 ghost use Rattle.piton.specs.Answers.{refusedRun};
-ghost use Rattle.piton_run.specs.Whole.{Asked, Fitting, RanWhole, Tells, firstLine, cellLine, linesOf, told};
+ghost use Rattle.piton_run.specs.Whole.{BytesFor, Asked, Fitting, RanWhole, Tells, firstLine, cellLine, linesOf, told};
 use scope::ProgramOffset;
 use scope::Ran;
 use scope::Registers;
@@ -25,28 +25,31 @@ struct Lengths {
     control: usize,
 }
 
-// What the image asks for; nothing if it will be refused for its header, whatever is lent.
+// So many cells in bytes; nothing if no accepted image has so many.
+fn bytes_for(cells: usize, most: usize) -> usize
+    requires { ⌜ most ≤ 2048 ⌝ }
+    ensures { λ r. ⌜ BytesFor cells most r ⌝ }
+{
+    if cells <= most { 8 * cells } else { 0 }
+}
+
+// What the image asks for, if it is accepted; if it is refused, that does not depend on what is lent.
 fn asked(image: &[u8]) -> Lengths
     ensures { λ r. ⌜ Asked (now (image .entry)) r ⌝ }
 {
     if 52 <= image.len() {
         let n = image::read_counts(image);
-        if n.cells <= 2048 {
-            if n.temporary <= 1024 {
-                if n.control <= 2048 {
-                    return Lengths {
-                        areas: 8 * n.cells,
-                        temporary: 8 * n.temporary,
-                        control: 8 * n.control,
-                    };
-                }
-            }
+        Lengths {
+            areas: bytes_for(n.cells, 2048),
+            temporary: bytes_for(n.temporary, 1024),
+            control: bytes_for(n.control, 2048),
         }
-    }
-    Lengths {
-        areas: 0,
-        temporary: 0,
-        control: 0,
+    } else {
+        Lengths {
+            areas: 0,
+            temporary: 0,
+            control: 0,
+        }
     }
 }
 

@@ -1,8 +1,7 @@
 -- What each call says and leaves (01, "What each call says"): the promises of load, run, report and step, for every input.
 use mathlib.Core.Path.{_≡_}
-use mathlib.Core.List.{List, [], _∷_, map}
-use mathlib.Core.Bool.{Bool, true, false}
-use Prim.Native.Nat.{ℕ, _+_, _*_, _<_, _≤_, zero, suc}
+use mathlib.Core.List.{List, [], _∷_}
+use Prim.Native.Nat.{ℕ, _+_, _*_, _<_, _≤_}
 use lib.Dec.{eqb, leb}
 use lib.ListN.{length}
 use Rattle.moore.specs.Machine.{Text, Psw, run, halt, error, State, P, p-step}

@@ -1,3 +1,4 @@
+-- `lines::put_decimal` meets its contract. The measure is the number itself. Assumes nothing.
 use Rattle.lines.proofs.Laws.{decimals}
 use borrow.Author.Needs.{needs}
 use Prim.Native.Nat.{ℕ, _<_}

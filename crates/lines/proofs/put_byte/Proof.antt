@@ -2,8 +2,6 @@ use Rattle.lines.proofs.Laws.{wrote-byte}
 use borrow.Author.Needs.{needs}
 use Rattle.lines.proofs.put_byte.Statement.{statement}
 use Rattle.lines.proofs.put_byte.Tie as tie
-use Rattle.lines.proofs.put_byte.Reads as reads
-use Rattle.lines.proofs.put_byte.Lts as lts
 
 slice-write-out : tie.Need-slice-write-out
 slice-write-out c = search needs

@@ -2,9 +2,6 @@ use Rattle.lines.proofs.Laws.{numbers}
 use borrow.Author.Needs.{needs}
 use Rattle.lines.proofs.put_four.Statement.{statement}
 use Rattle.lines.proofs.put_four.Tie as tie
-use Rattle.lines.proofs.put_four.Reads as reads
-use Rattle.lines.proofs.put_four.Lts as lts
-use Rattle.lines.proofs.put_number.Reads as put-number-reads
 
 put-number-requires : tie.Need-put-number-requires
 put-number-requires c κs = search needs

@@ -2,10 +2,6 @@ use Rattle.piton_run.proofs.Running.{loaded-ran, not-loaded}
 use borrow.Author.Needs.{needs}
 use Rattle.piton_run.proofs.load_and_run.Statement.{statement}
 use Rattle.piton_run.proofs.load_and_run.Tie as tie
-use Rattle.piton_run.proofs.load_and_run.Reads as reads
-use Rattle.piton_run.proofs.load_and_run.Lts as lts
-use Rattle.piton.proofs.piton_load.Reads as piton-load-reads
-use Rattle.piton.proofs.piton_run.Reads as piton-run-reads
 
 piton-load-requires : tie.Need-piton-load-requires
 piton-load-requires c κs = search needs

@@ -2,10 +2,6 @@ use Rattle.piton_run.proofs.Lines.{wrote-cell}
 use borrow.Author.Needs.{needs}
 use Rattle.piton_run.proofs.put_cell.Statement.{statement}
 use Rattle.piton_run.proofs.put_cell.Tie as tie
-use Rattle.piton_run.proofs.put_cell.Reads as reads
-use Rattle.piton_run.proofs.put_cell.Lts as lts
-use Rattle.cells.proofs.get.Reads as get-reads
-use Rattle.lines.proofs.put_four.Reads as put-four-reads
 
 get-requires : tie.Need-get-requires
 get-requires c κs = search needs

@@ -1,3 +1,5 @@
+-- `piton_run::put_cells` meets its contract. The invariant: the lines of i cells stand behind `at`. The measure is how many are still to come.
+-- Assumes nothing.
 use mathlib.Core.Path.{_≡_, refl}
 use Prim.Native.Nat.{_+_, _-_, _*_, _/_, _≤_}
 use native.Mathlib.Omega.{arith}
@@ -9,9 +11,6 @@ use Rattle.piton_run.proofs.Lines.{wrote-none, wrote-next, wrote-all}
 use borrow.Author.Needs.{needs}
 use Rattle.piton_run.proofs.put_cells.Statement.{statement}
 use Rattle.piton_run.proofs.put_cells.Tie as tie
-use Rattle.piton_run.proofs.put_cells.Reads as reads
-use Rattle.piton_run.proofs.put_cells.Lts as lts
-use Rattle.piton_run.proofs.put_cell.Reads as put-cell-reads
 
 abbrev Inv-loop : tie.InvT-loop
 Inv-loop out₀ at areas n end₀ i₀ out end i =

@@ -2,9 +2,6 @@ use Rattle.piton_run.proofs.Lines.{wrote-first}
 use borrow.Author.Needs.{needs}
 use Rattle.piton_run.proofs.put_first.Statement.{statement}
 use Rattle.piton_run.proofs.put_first.Tie as tie
-use Rattle.piton_run.proofs.put_first.Reads as reads
-use Rattle.piton_run.proofs.put_first.Lts as lts
-use Rattle.lines.proofs.put_four.Reads as put-four-reads
 
 put-four-requires : tie.Need-put-four-requires
 put-four-requires c κs = search needs

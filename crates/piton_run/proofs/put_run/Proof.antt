@@ -2,10 +2,6 @@ use Rattle.piton_run.proofs.Lines.{told-refusal, told-run}
 use borrow.Author.Needs.{needs}
 use Rattle.piton_run.proofs.put_run.Statement.{statement}
 use Rattle.piton_run.proofs.put_run.Tie as tie
-use Rattle.piton_run.proofs.put_run.Reads as reads
-use Rattle.piton_run.proofs.put_run.Lts as lts
-use Rattle.piton_run.proofs.put_cells.Reads as put-cells-reads
-use Rattle.piton_run.proofs.put_first.Reads as put-first-reads
 
 put-first-requires : tie.Need-put-first-requires
 put-first-requires c κs = search needs

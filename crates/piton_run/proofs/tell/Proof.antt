@@ -3,12 +3,6 @@ use Rattle.piton_run.proofs.Lines.{wrote-too-long}
 use borrow.Author.Needs.{needs}
 use Rattle.piton_run.proofs.tell.Statement.{statement}
 use Rattle.piton_run.proofs.tell.Tie as tie
-use Rattle.piton_run.proofs.tell.Reads as reads
-use Rattle.piton_run.proofs.tell.Lts as lts
-use Rattle.piton_run.proofs.asked.Reads as asked-reads
-use Rattle.piton_run.proofs.put_first.Reads as put-first-reads
-use Rattle.piton_run.proofs.tell_image.Reads as tell-image-reads
-use Rattle.piton_run.proofs.too_long.Reads as too-long-reads
 
 asked-requires : tie.Need-asked-requires
 asked-requires c κs = search needs

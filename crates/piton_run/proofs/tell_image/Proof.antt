@@ -2,10 +2,6 @@ use Rattle.piton_run.proofs.Lines.{wrote-whole}
 use borrow.Author.Needs.{needs}
 use Rattle.piton_run.proofs.tell_image.Statement.{statement}
 use Rattle.piton_run.proofs.tell_image.Tie as tie
-use Rattle.piton_run.proofs.tell_image.Reads as reads
-use Rattle.piton_run.proofs.tell_image.Lts as lts
-use Rattle.piton_run.proofs.load_and_run.Reads as load-and-run-reads
-use Rattle.piton_run.proofs.put_run.Reads as put-run-reads
 
 load-and-run-requires : tie.Need-load-and-run-requires
 load-and-run-requires c κs = search needs

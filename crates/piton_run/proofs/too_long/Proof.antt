@@ -1,10 +1,7 @@
 use mathlib.Core.Path.{refl}
 use Rattle.piton.specs.Answers.{refusedRun}
-use borrow.Author.Needs.{needs}
 use Rattle.piton_run.proofs.too_long.Statement.{statement}
 use Rattle.piton_run.proofs.too_long.Tie as tie
-use Rattle.piton_run.proofs.too_long.Reads as reads
-use Rattle.piton_run.proofs.too_long.Lts as lts
 
 returns : tie.Need-returns
 unfolding refusedRun

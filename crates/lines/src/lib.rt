@@ -9,7 +9,7 @@ ghost use Rattle.lines.specs.Written.{Wrote, numberThen, fourThen};
 fn digit(n: u32) -> u8
     ensures { λ r. ⌜ r ≡ 48 + n % 10 ⌝ }
 {
-    48 + (n % 10) as u8
+    b'0' + (n % 10) as u8
 }
 
 fn put_byte(out: &mut [u8], at: usize, byte: u8) -> usize
@@ -32,7 +32,7 @@ fn put_decimal(out: &mut [u8], at: usize, n: u32) -> usize
     }
 }
 
-// A number and the byte behind it.
+// A number and the byte behind it: at most 11 bytes.
 fn put_number(out: &mut [u8], at: usize, n: u32, after: u8) -> usize
     requires { ⌜ at + 11 ≤ length (now out) ⌝ }
     ensures { λ r. ⌜ Wrote (now (out .entry)) at (numberThen n after) (now (out .exit)) r × (r ≤ at + 11) ⌝ }
@@ -46,8 +46,8 @@ pub fn put_four(out: &mut [u8], at: usize, a: u32, b: u32, c: u32, d: u32, after
     requires { ⌜ at + 44 ≤ length (now out) ⌝ }
     ensures { λ r. ⌜ Wrote (now (out .entry)) at (fourThen a b c d after) (now (out .exit)) r × (r ≤ at + 44) ⌝ }
 {
-    let first = put_number(out, at, a, 32);
-    let second = put_number(out, first, b, 32);
-    let third = put_number(out, second, c, 32);
+    let first = put_number(out, at, a, b' ');
+    let second = put_number(out, first, b, b' ');
+    let third = put_number(out, second, c, b' ');
     put_number(out, third, d, after)
 }

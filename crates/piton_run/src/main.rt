@@ -88,7 +88,7 @@ fn put_first(out: &mut [u8], ran: Ran) -> usize
         ran.place,
         ran.steps,
         registers.status,
-        32,
+        b' ',
     );
     lines::put_four(
         out,
@@ -97,7 +97,7 @@ fn put_first(out: &mut [u8], ran: Ran) -> usize
         offset.0,
         registers.temporary,
         registers.control,
-        10,
+        b'\n',
     )
 }
 
@@ -107,7 +107,15 @@ fn put_cell(out: &mut [u8], at: usize, areas: &[u8], i: usize) -> usize
     ensures { λ r. ⌜ Wrote (now (out .entry)) at (cellLine i (cellAt (now (areas .entry)) i)) (now (out .exit)) r × (r ≤ at + 44) ⌝ }
 {
     let c = cells::get(areas, i);
-    lines::put_four(out, at, i as u32, c.tag as u32, c.name as u32, c.value, 10)
+    lines::put_four(
+        out,
+        at,
+        i as u32,
+        c.tag as u32,
+        c.name as u32,
+        c.value,
+        b'\n',
+    )
 }
 
 fn put_cells(out: &mut [u8], at: usize, areas: &[u8]) -> usize
@@ -205,6 +213,7 @@ fn tell(
     }
 }
 
+// One byte more than counts is enough to tell that there is more. The first line takes at most 88 bytes, and each of 2,048 cells 44.
 fn main() {
     let mut input = [0u8; 65537];
     let mut areas = [0u8; 16384];

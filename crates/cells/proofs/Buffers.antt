@@ -5,11 +5,11 @@ use mathlib.Core.List.{List, [], _∷_, _++_, append-nil}
 use Prim.Native.Nat.{ℕ, zero, suc, _+_, _-_, _*_, _<_, _≤_}
 use native.Mathlib.Omega.{arith}
 use native.Mathlib.Decide.{decLt}
-use lib.ListN.{length, getD, length-append, List·getD-eq-default}
+use lib.ListN.{length, getD, length-append, List·getD-eq-default, replicate, length-replicate}
 use lib.Seq.{getD-append-add}
 use Rattle.scope.specs.declared.Cell.{Cell}
 use Rattle.scope.specs.Cells.{u16At, u32At, cellAt, bytesOf, free, Bytes}
-use Rattle.scope.specs.Holding.{inBytes, zeros, buffer}
+use Rattle.scope.specs.Holding.{inBytes, buffer}
 use Rattle.cells.specs.Rows.{cells, Fit, Fits}
 use Rattle.cells.proofs.Octets.{first-cell, cell-by-bytes}
 use Rattle.cells.proofs.Laws.{length-cells, getD-cells, are-cells, same-bytes, fits-cells}
@@ -20,11 +20,7 @@ pub length-inBytes : (cs : List Cell) → length (inBytes cs) ≡ 8 * length cs
 length-inBytes [] = refl
 length-inBytes (c ∷ cs) = omega (arith, length-inBytes cs)
 
-length-zeros : (n : ℕ) → length (zeros n) ≡ n
-length-zeros zero = refl
-length-zeros (suc n) = ap suc (length-zeros n)
-
-getD-zeros : (n m : ℕ) → getD (zeros n) m 0 ≡ 0
+getD-zeros : (n m : ℕ) → getD (replicate {A = ℕ} n 0) m 0 ≡ 0
 getD-zeros zero m = refl
 getD-zeros (suc n) zero = refl
 getD-zeros (suc n) (suc m) = getD-zeros n m
@@ -41,11 +37,11 @@ bytes-next c r f p (suc (suc (suc (suc (suc (suc (suc zero))))))) = omega arith
 bytes-next c r f p (suc (suc (suc (suc (suc (suc (suc (suc m)))))))) = p m
 
 -- with zeros behind them
-bytes-packed : (cs : List Cell) (n : ℕ) → Fits cs → Bytes (inBytes cs ++ zeros n)
+bytes-packed : (cs : List Cell) (n : ℕ) → Fits cs → Bytes (inBytes cs ++ replicate n 0)
 bytes-packed [] n f = λ m. rw (getD-zeros n m) (omega arith)
-bytes-packed (c ∷ cs) n f = bytes-next c (inBytes cs ++ zeros n) (f 0) (bytes-packed cs n (λ i. f (suc i)))
+bytes-packed (c ∷ cs) n f = bytes-next c (inBytes cs ++ replicate n 0) (f 0) (bytes-packed cs n (λ i. f (suc i)))
 
-zero-cell : (n i : ℕ) → cellAt (zeros n) i ≡ free
+zero-cell : (n i : ℕ) → cellAt (replicate n 0) i ≡ free
 unfolding u16At u32At
 zero-cell n i = simp getD-zeros
 
@@ -55,10 +51,10 @@ next-cell c r i =
     (λ m h. let e : 8 * suc i + m ≡ 8 + (8 * i + m) = omega arith in rw e (getD-append-add (bytesOf c) r (8 * i + m) 0))
 
 -- every cell, also those above
-cell-packed : (cs : List Cell) (n i : ℕ) → Fits cs → cellAt (inBytes cs ++ zeros n) i ≡ getD cs i free
+cell-packed : (cs : List Cell) (n i : ℕ) → Fits cs → cellAt (inBytes cs ++ replicate n 0) i ≡ getD cs i free
 cell-packed [] n i f = zero-cell n i
-cell-packed (c ∷ cs) n zero f = first-cell c (inBytes cs ++ zeros n) (f 0)
-cell-packed (c ∷ cs) n (suc i) f = next-cell c (inBytes cs ++ zeros n) i ∙ cell-packed cs n i (λ j. f (suc j))
+cell-packed (c ∷ cs) n zero f = first-cell c (inBytes cs ++ replicate n 0) (f 0)
+cell-packed (c ∷ cs) n (suc i) f = next-cell c (inBytes cs ++ replicate n 0) i ∙ cell-packed cs n i (λ j. f (suc j))
 
 pub bytes-buffer : (n : ℕ) (cs : List Cell) → Fits cs → Bytes (buffer n cs)
 unfolding buffer
@@ -68,7 +64,7 @@ pub length-buffer : (n : ℕ) (cs : List Cell) → 8 * length cs ≤ n → lengt
 unfolding buffer
 length-buffer n cs h =
     let z : ℕ = n - length (inBytes cs) in
-    omega (arith, length-append (inBytes cs) (zeros z), length-zeros z, length-inBytes cs)
+    omega (arith, length-append (inBytes cs) (replicate z 0), length-replicate {A = ℕ} z 0, length-inBytes cs)
 
 -- the cells of a buffer are those that it was made of, and free ones above them
 pub cell-buffer : (n : ℕ) (cs : List Cell) (i : ℕ) → Fits cs → cellAt (buffer n cs) i ≡ getD cs i free

@@ -1,6 +1,5 @@
--- Moore's machine: programs, frames and p-states, each instruction's precondition and step, one step, n steps. Written from source 003,
--- and from source 000 where 003 lacks a definition; beside each stands the page. Names in capitals are the sources'. Programs, areas and
--- locals are named by their numbers, labels by their offsets, and lookups are total, as in the sources.
+-- Moore's machine, from source 003, and from source 000 where 003 lacks a definition; beside each stands the page. Names in capitals are the
+-- sources'. Programs, areas and locals are named by their numbers, labels by their offsets, and lookups are total, as in the sources.
 use mathlib.Core.List.{List, [], _∷_, _++_, reverse}
 use mathlib.Core.Bool.{Bool, true, false, not, _&&_, _||_}
 use Prim.Native.Nat.{ℕ, zero, suc, _+_, _-_}

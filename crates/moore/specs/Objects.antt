@@ -127,14 +127,13 @@ equal (addr a o) y = eqb a (area-name y) && eqb o (offset y)
 equal (pc p o) y = eqb p (area-name y) && eqb o (offset y)
 equal (subr p) y = eqb p (area-name y)
 
--- SMALL-NATURALP, SMALL-INTEGERP: what a word of w bits holds (`mag z` is n for n and for -(n + 1))
+-- SMALL-NATURALP, SMALL-INTEGERP: what a word of w bits holds (`mag z` is n for n and for `negsuc n`, which is -(n + 1))
 abbrev pub small-naturalp : ℕ → ℕ → Bool
 small-naturalp n w = ltb n (2 ^ w)
 
 abbrev pub small-integerp : ℤ → ℕ → Bool
 small-integerp z w = ltb (mag z) (2 ^ (w - 1))
 
--- negsuc n is -(n + 1)
 abbrev pub negativep : ℤ → Bool
 negativep (pos n) = false
 negativep (negsuc n) = true

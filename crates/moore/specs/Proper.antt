@@ -1,5 +1,4 @@
--- Proper p-states (000 pages 140 to 150, PROPER-P-STATEP and below it), with document 01's rules for the bottom frame and the error code.
--- z gives the areas' lengths, which no step changes.
+-- Proper p-states (000 pp. 140 to 150, PROPER-P-STATEP), with 01's rules for the bottom frame and the error code; z: the areas' lengths.
 use mathlib.Core.Path.{_≡_}
 use mathlib.Core.List.{List, [], _∷_, map}
 use mathlib.Core.Bool.{true}

@@ -1,6 +1,6 @@
 -- Document 01's worked image of 132 bytes and its two variants ("One run, whole"), computed by the definitions: each is accepted, and
 -- the run prints what the paper prints.
-use mathlib.Core.Path.{_≡_, refl}
+use mathlib.Core.Path.{_≡_, refl, subst}
 use mathlib.Core.Bool.{Bool, true, false, _&&_}
 use mathlib.Core.List.{List, [], _∷_, _++_}
 use Prim.Native.Nat.{ℕ, zero, suc, _<_, _≤_}
@@ -14,7 +14,8 @@ use Rattle.scope.specs.Cells.{u16At, u32At, intFrom, cellOf, objectOf, r
 use Rattle.scope.specs.Image.{word, programField, areaField, instructionAt, kindOf, conditionsOf, operandBound}
 use Rattle.scope.specs.Checks.{boundsOf, programTests, areaTests, cellTests, codeTests, firstFailing, ranges, sections, programOk, areaOk, casesOk, ends, instructionOk, imageTests, imageSays}
 use Rattle.scope.specs.Holding.{insOf, textOf, initial}
-use Rattle.scope.specs.Calls.{Count, printed}
+use Rattle.scope.specs.Calls.{andThen, loadSays, Count}
+use Rattle.scope.specs.Printing.{printed, digits, decimal, inLines, budget, inputSays, Writes, ran}
 
 abbrev words : List ℕ → List ℕ
 words [] = []
@@ -68,22 +69,33 @@ counted m s budget n l a e =
 
 -- ---- the three runs
 
--- the image is accepted, and a run under the run program's budget takes n steps and prints the lines
+-- the image is accepted and loaded, and a run under the run program's budget takes n steps and prints the lines
 pub record Prints (b : List ℕ) (n : ℕ) (expected : List (List ℕ)) : Type 0 where
   pub accepted : imageSays b ≡ Fine
-  pub count : Count (textOf b) (initial b) 1000000 n
+  pub loaded : inputSays b ≡ Fine
+  pub count : Count (textOf b) (initial b) budget n
   pub lines : printed n (P (textOf b) (initial b) n) ≡ expected
 
 pub worked : Prints (image 3 2) 5 ((0 ∷ 0 ∷ 5 ∷ 1 ∷ 0 ∷ 4 ∷ 0 ∷ 2 ∷ []) ∷ (0 ∷ 1 ∷ 0 ∷ 2 ∷ []) ∷ (1 ∷ 1 ∷ 0 ∷ 9 ∷ []) ∷ [])
-unfolding boundsOf programTests areaTests cellTests codeTests imageSays imageTests firstFailing choose word u32At u16At programField areaField instructionAt kindOf conditionsOf operandBound ranges sections programOk areaOk casesOk ends instructionOk rowOf objectp intFrom cellOf objectOf insOf textOf initial program fetch-adp deposit-adp p-objectp p-objectp-type need p-ins-okp p-return p-ins-step p-settle p-step1 insAt p-step-by p-step P
-worked = record { accepted = refl; count = counted _ _ _ 5 (omega arith) refl refl; lines = refl }
+unfolding inputSays loadSays andThen boundsOf programTests areaTests cellTests codeTests imageSays imageTests firstFailing choose word u32At u16At programField areaField instructionAt kindOf conditionsOf operandBound ranges sections programOk areaOk casesOk ends instructionOk rowOf objectp intFrom cellOf objectOf insOf textOf initial program fetch-adp deposit-adp p-objectp p-objectp-type need p-ins-okp p-return p-ins-step p-settle p-step1 insAt p-step-by p-step P
+worked = record { accepted = refl; loaded = refl; count = counted _ _ _ 5 (omega arith) refl refl; lines = refl }
 
 -- "With NAT 0 first: answer 2, 3 steps, offset 2, 2 temporary cells."
 pub nat-0-first : Prints (image 0 2) 3 ((2 ∷ 0 ∷ 3 ∷ 2 ∷ 0 ∷ 2 ∷ 2 ∷ 2 ∷ []) ∷ (0 ∷ 1 ∷ 0 ∷ 0 ∷ []) ∷ (1 ∷ 1 ∷ 0 ∷ 9 ∷ []) ∷ [])
-unfolding boundsOf programTests areaTests cellTests codeTests imageSays imageTests firstFailing choose word u32At u16At programField areaField instructionAt kindOf conditionsOf operandBound ranges sections programOk areaOk casesOk ends instructionOk rowOf objectp intFrom cellOf objectOf insOf textOf initial program fetch-adp deposit-adp p-objectp p-objectp-type need p-ins-okp p-return p-ins-step p-settle p-step1 insAt p-step-by p-step P
-nat-0-first = record { accepted = refl; count = counted _ _ _ 3 (omega arith) refl refl; lines = refl }
+unfolding inputSays loadSays andThen boundsOf programTests areaTests cellTests codeTests imageSays imageTests firstFailing choose word u32At u16At programField areaField instructionAt kindOf conditionsOf operandBound ranges sections programOk areaOk casesOk ends instructionOk rowOf objectp intFrom cellOf objectOf insOf textOf initial program fetch-adp deposit-adp p-objectp p-objectp-type need p-ins-okp p-return p-ins-step p-settle p-step1 insAt p-step-by p-step P
+nat-0-first = record { accepted = refl; loaded = refl; count = counted _ _ _ 3 (omega arith) refl refl; lines = refl }
 
 -- "With T 1 instead: ERROR at step 2."
 pub t-1 : Prints (image 3 1) 2 ((2 ∷ 0 ∷ 2 ∷ 2 ∷ 0 ∷ 1 ∷ 1 ∷ 2 ∷ []) ∷ (0 ∷ 1 ∷ 0 ∷ 3 ∷ []) ∷ (1 ∷ 1 ∷ 0 ∷ 9 ∷ []) ∷ [])
-unfolding boundsOf programTests areaTests cellTests codeTests imageSays imageTests firstFailing choose word u32At u16At programField areaField instructionAt kindOf conditionsOf operandBound ranges sections programOk areaOk casesOk ends instructionOk rowOf objectp intFrom cellOf objectOf insOf textOf initial program fetch-adp deposit-adp p-objectp p-objectp-type need p-ins-okp p-return p-ins-step p-settle p-step1 insAt p-step-by p-step P
-t-1 = record { accepted = refl; count = counted _ _ _ 2 (omega arith) refl refl; lines = refl }
+unfolding inputSays loadSays andThen boundsOf programTests areaTests cellTests codeTests imageSays imageTests firstFailing choose word u32At u16At programField areaField instructionAt kindOf conditionsOf operandBound ranges sections programOk areaOk casesOk ends instructionOk rowOf objectp intFrom cellOf objectOf insOf textOf initial program fetch-adp deposit-adp p-objectp p-objectp-type need p-ins-okp p-return p-ins-step p-settle p-step1 insAt p-step-by p-step P
+t-1 = record { accepted = refl; loaded = refl; count = counted _ _ _ 2 (omega arith) refl refl; lines = refl }
+
+-- ---- in bytes
+
+pub written : {b : List ℕ} {n : ℕ} {expected : List (List ℕ)} → Prints b n expected → Writes b (inLines expected)
+written {b} p = subst (λ (l : List (List ℕ)). Writes b (inLines l)) (p .lines) (ran (p .loaded) (p .count))
+
+-- "12 1 0 907" and a line's end
+pub a-line : inLines ((12 ∷ 1 ∷ 0 ∷ 907 ∷ []) ∷ []) ≡ 49 ∷ 50 ∷ 32 ∷ 49 ∷ 32 ∷ 48 ∷ 32 ∷ 57 ∷ 48 ∷ 55 ∷ 10 ∷ []
+unfolding digits decimal choose
+a-line = refl

@@ -1,10 +1,10 @@
 -- What each call says and leaves (01, "What each call says"): the promises of load, run, report and step, for every input.
 use mathlib.Core.Path.{_≡_}
 use mathlib.Core.List.{List, [], _∷_}
-use Prim.Native.Nat.{ℕ, _+_, _*_, _<_, _≤_, suc}
+use Prim.Native.Nat.{ℕ, _+_, _*_, _<_, _≤_}
 use lib.Dec.{eqb, leb}
 use lib.ListN.{length}
-use Rattle.moore.specs.Machine.{Text, Psw, run, halt, error, State, P, p-step, ctrl-size}
+use Rattle.moore.specs.Machine.{Text, Psw, run, halt, error, State, P, p-step}
 use Rattle.scope.specs.declared.Registers.{Registers}
 use Rattle.scope.specs.declared.Checked.{Checked}
 use Rattle.scope.specs.declared.Checked.the-variants.{Fine, Refused}
@@ -13,10 +13,9 @@ use Rattle.scope.specs.declared.Ran.{Ran}
 use Rattle.scope.specs.declared.Said.{Said}
 use Rattle.scope.specs.Image.{areas, dataCells, controlLimit, temporaryLimit, temps}
 use Rattle.scope.specs.Checks.{Test, test, firstFailing, imageSays}
-use Rattle.scope.specs.Holding.{textOf, initial, Holds, Keeps, statusOf, dataWords}
+use Rattle.scope.specs.Holding.{textOf, initial, Holds, Keeps}
 use Rattle.scope.specs.States.{StateOk}
 use Rattle.scope.specs.Reach.{Report}
-use Rattle.scope.specs.declared.Cell.{Cell}
 
 -- the number and the place of a check's outcome: "load and report: done" is 0, and so is its place
 abbrev pub numberOf : Checked → ℕ
@@ -126,18 +125,3 @@ pub record Steps (b : List ℕ) (r : Registers) (d t c : List ℕ) (r′ : Regis
   pub refused : (n p : ℕ) → said ≡ Refused n p → (r′ ≡ r) × Same d t c d′ t′ c′
   pub stepped : said ≡ Fine → (s : State) → Keeps b r d t c s
       → SameLengths d t c d′ t′ c′ × Keeps b r′ d′ t′ c′ (p-step (textOf b) s)
-
--- `number tag name value`
-abbrev pub cellLines : ℕ → List Cell → List (List ℕ)
-cellLines n [] = []
-cellLines n (c ∷ cs) = (n ∷ c .tag ∷ c .name ∷ c .value ∷ []) ∷ cellLines (suc n) cs
-
--- `answer place steps status program offset temporary control`, after n steps to the p-state s
-abbrev pub printed : ℕ → State → List (List ℕ)
-printed n s =
-    (answerOf (s .psw) ∷ 0 ∷ n ∷ statusOf (s .psw) ∷ s .prog ∷ s .off ∷ length (s .temp) ∷ ctrl-size (s .ctrl) ∷ [])
-    ∷ cellLines 0 (dataWords (s .areas))
-
--- "After a refusal, only the first line": a refused load
-abbrev pub printedRefusal : ℕ → ℕ → List (List ℕ)
-printedRefusal n p = (n ∷ p ∷ 0 ∷ 3 ∷ 0 ∷ 0 ∷ 0 ∷ 0 ∷ []) ∷ []

@@ -140,7 +140,6 @@ cellTests b =
     tab (λ k. test 16 k (objectp (boundsOf b) (constantAt b k))) (constants b)
     ++ tab (λ k. test 16 (constants b + k) (objectp (boundsOf b) (dataCellAt b k))) (dataCells b)
 
--- of program p
 unfoldable pub codeTests : List ℕ → ℕ → List Test
 codeTests b p = tab (λ o. test 17 (firstInstruction b p + o) (instructionOk b p o)) (instructionCount b p)
 
@@ -151,7 +150,6 @@ imageTests b =
     ++ (sections b
     ++ (programTests b ++ (areaTests b ++ (cellTests b ++ concat (tab (codeTests b) (programs b)))))))
 
--- what is said of an image
 unfoldable pub imageSays : List ℕ → Checked
 imageSays b = firstFailing (imageTests b)
 

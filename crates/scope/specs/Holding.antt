@@ -1,13 +1,10 @@
 -- The programs and the p-state that an image means, and how registers and buffers hold a p-state (01, "State and well-formedness").
 use mathlib.Core.List.{List, [], _∷_, _++_, map, reverse}
-use Prim.Native.Nat.{ℕ, _+_, _-_, zero, suc}
-use lib.ListN.{getD, length}
+use Prim.Native.Nat.{ℕ, _+_, _-_}
+use lib.ListN.{length, getD, replicate}
 use Rattle.moore.specs.Objects.{Obj, offset}
-use Rattle.moore.specs.Machine.{Ins, call, ret, push-constant, push-local, push-global, pop, pop*, pop-local, pop-global, set-local}
-use Rattle.moore.specs.Machine.{set-global, jump, jump-case, test-nat-and-jump, test-int-and-jump, test-bool-and-jump, no-op, eq}
-use Rattle.moore.specs.Machine.{add-addr, sub-addr, lt-addr, fetch, deposit, add-int, sub-int, neg-int, lt-int, int-to-nat, add-nat}
-use Rattle.moore.specs.Machine.{add1-nat, sub-nat, sub1-nat, lt-nat, or-bool, and-bool, not-bool, Program, Text, State, run, Frame, Psw}
-use Rattle.moore.specs.Machine.{halt, error, ctrl-size}
+use Rattle.moore.specs.Machine as M
+use Rattle.moore.specs.Machine.{Ins, Program, Text, State, run, Frame, Psw, halt, error, ctrl-size}
 use Rattle.moore.specs.Proper.{ProperState}
 use Rattle.scope.specs.declared.Cell.{Cell}
 use Rattle.scope.specs.declared.Instruction.{Instruction}
@@ -31,17 +28,16 @@ constantOf b k = object (constantAt b k)
 -- the instruction of a record, for codes 1 to 36 in order
 abbrev pub insList : List ℕ → Instruction → List Ins
 insList b i =
-    (call (i .a) ∷ ret ∷ push-constant (constantOf b (i .a)) ∷ push-local (i .a) ∷ push-global (i .a) ∷ pop
-    ∷ pop* (i .a) ∷ pop-local (i .a) ∷ pop-global (i .a) ∷ set-local (i .a) ∷ set-global (i .a) ∷ jump (i .a)
-    ∷ jump-case (tab (λ k. offset (constantOf b (i .a + k))) (i .b)) ∷ test-nat-and-jump (i .condition) (i .a)
-    ∷ test-int-and-jump (i .condition) (i .a) ∷ test-bool-and-jump (i .condition) (i .a) ∷ no-op ∷ eq ∷ add-addr ∷ sub-addr
-    ∷ lt-addr ∷ fetch ∷ deposit ∷ add-int ∷ sub-int ∷ neg-int ∷ lt-int ∷ int-to-nat ∷ add-nat ∷ add1-nat
-    ∷ sub-nat ∷ sub1-nat ∷ lt-nat ∷ or-bool ∷ and-bool ∷ not-bool ∷ [])
+    (M.call (i .a) ∷ M.ret ∷ M.push-constant (constantOf b (i .a)) ∷ M.push-local (i .a) ∷ M.push-global (i .a) ∷ M.pop
+    ∷ M.pop* (i .a) ∷ M.pop-local (i .a) ∷ M.pop-global (i .a) ∷ M.set-local (i .a) ∷ M.set-global (i .a) ∷ M.jump (i .a)
+    ∷ M.jump-case (tab (λ k. offset (constantOf b (i .a + k))) (i .b)) ∷ M.test-nat-and-jump (i .condition) (i .a)
+    ∷ M.test-int-and-jump (i .condition) (i .a) ∷ M.test-bool-and-jump (i .condition) (i .a) ∷ M.no-op ∷ M.eq ∷ M.add-addr ∷ M.sub-addr
+    ∷ M.lt-addr ∷ M.fetch ∷ M.deposit ∷ M.add-int ∷ M.sub-int ∷ M.neg-int ∷ M.lt-int ∷ M.int-to-nat ∷ M.add-nat ∷ M.add1-nat
+    ∷ M.sub-nat ∷ M.sub1-nat ∷ M.lt-nat ∷ M.or-bool ∷ M.and-bool ∷ M.not-bool ∷ [])
 
 unfoldable pub insOf : List ℕ → Instruction → Ins
-insOf b i = getD (insList b i) (i .code - 1) ret
+insOf b i = getD (insList b i) (i .code - 1) M.ret
 
--- the temps' initial values
 abbrev pub initialTemps : List ℕ → ℕ → List Obj
 initialTemps b p = tab (λ k. constantOf b (firstTemp b p + k)) (temps b p)
 
@@ -83,13 +79,9 @@ abbrev pub inBytes : List Cell → List ℕ
 inBytes [] = []
 inBytes (c ∷ cs) = bytesOf c ++ inBytes cs
 
-abbrev pub zeros : ℕ → List ℕ
-zeros zero = []
-zeros (suc n) = 0 ∷ zeros n
-
 -- cells from the lowest up in a buffer of n bytes; "all free stack room is zero"
 unfoldable pub buffer : ℕ → List Cell → List ℕ
-buffer n cs = inBytes cs ++ zeros (n - length (inBytes cs))
+buffer n cs = inBytes cs ++ replicate (n - length (inBytes cs)) 0
 
 -- "A frame is: return PC, NAT of the caller's frame base, formals, temps."
 abbrev pub baseOf : List Frame → ℕ

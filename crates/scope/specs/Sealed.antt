@@ -16,8 +16,7 @@ SameBefore b e = (i : ℕ) → i < word b 10 → getD b i 0 ≡ getD e i 0
 abbrev pub SameArea : List ℕ → ℕ → List ℕ → List ℕ → Type 0
 SameArea b a d e = (i : ℕ) → i < areaLength b a → cellAt d (firstCell b a + i) ≡ cellAt e (firstCell b a + i)
 
--- "two .. images and states that are equal but for cells in areas reported out of reach": k is the report, 1 in reach and 0 not. Images may
--- differ in any cell of their data sections.
+-- "equal but for cells in areas reported out of reach": k is the report, 1 in reach and 0 not; images may differ in any data cell
 pub record EqualInputs (k b : List ℕ) (r : Registers) (d t c b′ : List ℕ) (r′ : Registers) (d′ t′ c′ : List ℕ) : Type 0 where
   pub images : SameBefore b b′
   pub registers : r ≡ r′
@@ -25,10 +24,9 @@ pub record EqualInputs (k b : List ℕ) (r : Registers) (d t c b′ : List ℕ) 
   pub control : c ≡ c′
   pub cells : (a : ℕ) → getD k a 0 ≡ 1 → SameArea b a d d′
 
--- "both runs give equal answers, step counts, registers, stacks and cells elsewhere, and in each run the out-of-reach cells end as they
--- began": one run leaves o, d₁, t₁ and c₁, the other p, d₂, t₂ and c₂
+-- "both runs give equal answers, step counts, registers [and places: `outcome`], stacks and cells elsewhere, and in each run the out-of-reach
+-- cells end as they began": one run leaves o, d₁, t₁ and c₁, the other p, d₂, t₂ and c₂
 pub record EqualEnds (k b d d′ : List ℕ) (o : Ran) (d₁ t₁ c₁ : List ℕ) (p : Ran) (d₂ t₂ c₂ : List ℕ) : Type 0 where
-  -- answer, place, step count and registers
   pub outcome : o ≡ p
   pub temporary : t₁ ≡ t₂
   pub control : c₁ ≡ c₂

@@ -1,7 +1,6 @@
 -- What demand 3 says of two p-states and a set of areas A, which in its theorems is what is in reach from the first.
 use mathlib.Core.Path.{_≡_}
 use mathlib.Core.List.{List, List·Memᴰ}
-use mathlib.Core.Logic.{_↔_}
 use Prim.Native.Nat.{ℕ}
 use lib.ListN.{length}
 use Rattle.moore.specs.Objects.{Obj, addr}
@@ -41,12 +40,3 @@ pub record Within (A : ℕ → Type 0) (s : State) : Type 0 where
 pub record Drawn (m : Text) : Type 0 where
   pub pushed : (p o : ℕ) (c : Obj) → insAt m p o ≡ push-constant c → List·Memᴰ c (m .consts)
   pub taken : (p : ℕ) (c : Obj) → List·Memᴰ c (program m p .temps) → List·Memᴰ c (m .consts)
-
--- s runs to x and t to y, and R is a notion of reach: both end equal but for cells in areas that were out of reach, with one reach, which
--- has not grown; and the areas that were out of reach are as they began
-pub record Sealed (R : State → ℕ → Type 0) (s t x y : State) : Type 0 where
-  pub agree : Agree (R s) x y
-  pub reach : (a : ℕ) → R x a ↔ R y a
-  pub falls : (a : ℕ) → R x a → R s a
-  pub first : Kept (R s) s x
-  pub second : Kept (R s) t y

@@ -1,11 +1,24 @@
--- Demand 3 on p-states in the words of a report r, one byte for each area, 1 in reach and 0 not: on the way from `Sealed` to the calls.
--- Nothing here has to be believed.
+-- Demand 3 on p-states: in the words of a notion of reach, and in those of a report, on the way from single steps to the calls. Nothing
+-- here has to be believed.
 use mathlib.Core.Path.{_≡_}
 use mathlib.Core.List.{List}
+use mathlib.Core.Logic.{_↔_}
 use Prim.Native.Nat.{ℕ, _<_}
 use lib.ListN.{length, getD}
 use Rattle.moore.specs.Machine.{Text, State, area}
 use Rattle.scope.specs.Reach.{Report}
+use Rattle.sealed.specs.Agree.{Agree, Kept}
+
+-- s runs to x and t to y, and R is a notion of reach: both end equal but for cells in areas that were out of reach, with one reach, which
+-- has not grown; and the areas that were out of reach are as they began
+pub record Sealed (R : State → ℕ → Type 0) (s t x y : State) : Type 0 where
+  pub agree : Agree (R s) x y
+  pub reach : (a : ℕ) → R x a ↔ R y a
+  pub falls : (a : ℕ) → R x a → R s a
+  pub first : Kept (R s) s x
+  pub second : Kept (R s) t y
+
+-- ---- in the words of a report r, one byte for each area, 1 in reach and 0 not
 
 -- equal but for cells in areas that r writes 0 for
 pub record EqualBut (r : List ℕ) (s t : State) : Type 0 where

@@ -4,7 +4,8 @@
 //! The library runs behind the bridge (host/bridge), a process of its own, so that it may be compiled
 //! for another processor. Reading order: [`case`], [`difference`], [`library`], [`hidden`],
 //! [`material`], [`hold`], [`shrink`](mod@shrink), [`file`](mod@file). The sentences that are held stand in
-//! tests/library; `soak` goes on from any seed.
+//! tests/library; `soak` goes on from any seed. The run program is held in tests/program.rs, by
+//! [`program`].
 
 #![forbid(unsafe_code)]
 #![warn(missing_docs)]
@@ -16,6 +17,7 @@ pub mod hidden;
 pub mod hold;
 pub mod library;
 pub mod material;
+pub mod program;
 pub mod shrink;
 mod wire;
 

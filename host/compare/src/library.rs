@@ -10,11 +10,15 @@ use crate::case::{Call, Case, Lent, Outcome};
 use crate::difference::{differences, Difference};
 use crate::wire::{replies, requests, NUMBER_BYTES};
 
-/// The repository's target directory, beside host/.
-pub fn target() -> PathBuf {
+/// The directory host/.
+pub fn host() -> &'static Path {
     let host = Path::new(env!("CARGO_MANIFEST_DIR")).parent();
     host.expect("this package is in host/")
-        .with_file_name("target")
+}
+
+/// The repository's target directory, beside host/.
+pub fn target() -> PathBuf {
+    host().with_file_name("target")
 }
 
 /// The running bridge.

@@ -1,0 +1,19 @@
+use Rattle.lines.proofs.Laws.{numbers}
+use borrow.Author.Needs.{needs}
+use Rattle.lines.proofs.put_number.Statement.{statement}
+use Rattle.lines.proofs.put_number.Tie as tie
+
+put-decimal-requires : tie.Need-put-decimal-requires
+put-decimal-requires c κs = search (numbers, needs)
+
+put-byte-requires : tie.Need-put-byte-requires
+put-byte-requires c κs = search (numbers, needs)
+
+same-length : tie.Need-same-length
+same-length c = search needs
+
+returns : tie.Need-returns
+returns c = search (numbers, needs)
+
+pub put-number-spec : {M : Type 1} → statement M
+put-number-spec = tie.close (tie.spec put-decimal-requires put-byte-requires same-length returns)

@@ -1,5 +1,5 @@
-//! The benchmark: prints its tables as markdown, or takes the steps of one case alone, so that their
-//! instructions can be counted.
+//! The benchmark: prints its tables as markdown, or does one thing alone, so that its instructions can
+//! be counted.
 
 // The C runtime calls main itself: the standard library's start asks for the bounds of the stack, and
 // the kit's emulator does not live through that.
@@ -18,6 +18,13 @@ use library::Library;
 /// The steps that are timed, and those before them: by then the stacks are as full as they get.
 const STEPS: u32 = 100_000;
 const BEFORE: u32 = 10_000;
+
+/// The calls over images of all sizes.
+const CALLS: [(&str, Call); 3] = [
+    ("load", Call::Load),
+    ("run with budget 0", Call::Run { budget: 0 }),
+    ("reach", Call::Reach),
+];
 
 /// The sizes, in parts of the largest.
 const SIZES: [usize; 7] = [0, 1, 2, 4, 8, 16, PARTS];
@@ -69,12 +76,16 @@ fn print_rule() {
     }
 }
 
-/// One call over images from the smallest to the largest, and one more.
-fn print_sizes(name: &str, call: Call, more: (&str, Work)) {
+/// A call over images from the smallest to the largest, and over one that may cost it more.
+fn print_sizes(name: &str, call: Call) {
+    let (harder, image, steps) = match call {
+        Call::Load => ("32/32, all JUMP-CASE", all_cases(), 0),
+        _ => ("32/32, stacks full", largest(CASES[0].add), BEFORE),
+    };
     let mut names = SIZES.map(|size| format!("{size}/{PARTS}")).to_vec();
     let mut works = SIZES.map(|size| Work::new(call, &sized(size), 0)).to_vec();
-    names.push(more.0.to_string());
-    works.push(more.1);
+    names.push(harder.to_string());
+    works.push(Work::new(call, &image, steps));
     let first = ["size", "image bytes", "state bytes"];
     let last = ["library, per byte beyond the smallest"];
     print_head(&format!("Time of a {name}"), &first, &last);
@@ -119,30 +130,26 @@ fn print_tables() {
     println!("Nanoseconds of processor time, least and median of {ROUNDS} rounds.");
     print_steps();
     print_rule();
-    let full = |call| {
-        (
-            "32/32, stacks full",
-            Work::new(call, &largest(CASES[0].add), BEFORE),
-        )
-    };
-    let cases = Work::new(Call::Load, &all_cases(), 0);
-    let run = Call::Run { budget: 0 };
-    print_sizes("load", Call::Load, ("32/32, all JUMP-CASE", cases));
-    print_sizes("run with budget 0", run, full(run));
-    print_sizes("reach", Call::Reach, full(Call::Reach));
+    for (name, call) in CALLS {
+        print_sizes(name, call);
+    }
     print_chains();
 }
 
-/// Takes so many steps of a case on one side.
-fn take_steps(name: &str, side: &str, steps: u32) {
-    let case = CASES.iter().find(|case| case.name == name);
-    let case = case.expect("it is the name of a case");
+/// So many steps of a small case, or so many calls, on one side.
+fn do_alone(name: &str, side: &str, times: u32) {
     let side: &dyn Interpreter = match side {
         "library" => &Library,
         _ => &Second,
     };
-    let work = Work::new(Call::Run { budget: steps }, &small(case.add), 0);
-    work.repeat(side, &mut work.own(), 1);
+    let steps = CASES.iter().find(|case| case.name == name).map(|case| {
+        let run = Call::Run { budget: times };
+        (Work::new(run, &small(case.add), 0), 1)
+    });
+    let calls = CALLS.iter().find(|call| call.0 == name);
+    let calls = calls.map(|call| (Work::new(call.1, &sized(PARTS), 0), times));
+    let (work, times) = steps.or(calls).expect("it is the name of a case or a call");
+    work.repeat(side, &mut work.own(), times);
 }
 
 #[no_mangle]
@@ -152,9 +159,10 @@ extern "C" fn main() -> i32 {
     match words[..] {
         [] => print_tables(),
         ["cases"] => CASES.iter().for_each(|case| println!("{}", case.name)),
-        [case, side, steps] => take_steps(case, side, steps.parse().expect("it is a number")),
+        ["calls"] => CALLS.iter().for_each(|call| println!("{}", call.0)),
+        [name, side, times] => do_alone(name, side, times.parse().expect("it is a number")),
         _ => {
-            eprintln!("bench [cases | CASE library|second STEPS]");
+            eprintln!("bench [cases | calls | NAME library|second TIMES]");
             return 2;
         }
     }

@@ -1,5 +1,6 @@
 //! The programs whose steps are timed. Each runs on without end and never errs.
 
+use rules::classifier;
 use second::generate::ImageBuilder;
 use second::Cell;
 use second::Operation::*;
@@ -124,113 +125,9 @@ fn address_walk(parts: &mut ImageBuilder) -> u16 {
     parts.program(0, &[Cell::addr(area, 0), Cell::nat(0)], &code)
 }
 
-/// The decision on one blob: over its pixels' differences from the frames around it, how many stand out
-/// of the film stock's noise, how far they go and what they come to.
-pub fn blob_rule(parts: &mut ImageBuilder) -> u16 {
-    const PIXELS: usize = 128;
-    let differences: Vec<Cell> = (0..PIXELS as i32)
-        .map(|pixel| Cell::int(pixel * 37 % 64 - 24))
-        .collect();
-    let pixels = parts.area(&differences);
-    let stock = parts.area(&[Cell::nat(1)]);
-    let verdict = parts.area(&[Cell::bool(false)]);
-
-    let absolute = [
-        PushLocal.with(0),
-        TestInt.when(2, 4),
-        PushLocal.with(0),
-        Ret.plain(),
-        // 4
-        PushLocal.with(0),
-        NegInt.plain(),
-        Ret.plain(),
-    ];
-    let absolute = parts.program(1, &[], &absolute);
-
-    let own = parts.programs.len() as u16;
-    let stocks = parts.constants(&[Cell::pc(own, 2), Cell::pc(own, 4), Cell::pc(own, 6)]);
-    let noises = parts.constants(&[Cell::int(3), Cell::int(6), Cell::int(12)]);
-    let one = parts.constant(Cell::nat(1));
-    let few = parts.constant(Cell::nat(8));
-    let bright = parts.constant(Cell::int(36));
-    let much = parts.constant(Cell::int(2_000));
-    let let_be = parts.constant(Cell::bool(false));
-    let (here, left, count, sum, most, value, noise) = (0, 1, 2, 3, 4, 5, 6);
-    let temps = [
-        Cell::addr(pixels, 0),
-        Cell::nat(PIXELS as u32 - 1),
-        Cell::nat(0),
-        Cell::int(0),
-        Cell::int(0),
-        Cell::int(0),
-        Cell::int(0),
-    ];
-    let code = [
-        PushGlobal.with(stock),
-        JumpCase.among(stocks, 3),
-        // 2: the noise of the stock
-        PushConstant.with(noises),
-        Jump.with(7),
-        PushConstant.with(noises + 1),
-        Jump.with(7),
-        PushConstant.with(noises + 2),
-        PopLocal.with(noise),
-        // 8: each pixel
-        PushLocal.with(here),
-        Fetch.plain(),
-        Call.with(absolute),
-        SetLocal.with(value),
-        PushLocal.with(sum),
-        AddInt.plain(),
-        PopLocal.with(sum),
-        PushLocal.with(noise),
-        PushLocal.with(value),
-        LtInt.plain(),
-        TestBool.when(1, 22),
-        PushLocal.with(count),
-        Add1Nat.plain(),
-        PopLocal.with(count),
-        // 22
-        PushLocal.with(most),
-        PushLocal.with(value),
-        LtInt.plain(),
-        TestBool.when(1, 28),
-        PushLocal.with(value),
-        PopLocal.with(most),
-        // 28
-        PushLocal.with(here),
-        PushConstant.with(one),
-        AddAddr.plain(),
-        PopLocal.with(here),
-        PushLocal.with(left),
-        Sub1Nat.plain(),
-        SetLocal.with(left),
-        TestNat.when(1, 8),
-        // 36: the decision
-        PushLocal.with(count),
-        PushConstant.with(few),
-        LtNat.plain(),
-        TestBool.when(0, 49),
-        PushConstant.with(bright),
-        PushLocal.with(most),
-        LtInt.plain(),
-        PushConstant.with(much),
-        PushLocal.with(sum),
-        LtInt.plain(),
-        OrBool.plain(),
-        PopGlobal.with(verdict),
-        Ret.plain(),
-        // 49
-        PushConstant.with(let_be),
-        PopGlobal.with(verdict),
-        Ret.plain(),
-    ];
-    parts.program(0, &temps, &code)
-}
-
 /// The rule on one blob after the other.
 fn blob_rules(parts: &mut ImageBuilder) -> u16 {
-    let rule = blob_rule(parts);
+    let rule = classifier::add(parts);
     parts.program(0, &[], &[Call.with(rule), Jump.with(0)])
 }
 
@@ -270,7 +167,7 @@ mod tests {
 
     #[test]
     fn the_blob_rule_decides_after_some_thousand_steps() {
-        let image = small(blob_rule);
+        let image = small(classifier::add);
         let mut state = State::load(&image).expect("it is good");
         let ran = state.run(&image, 1_000_000);
         assert_eq!(ran.answer, DONE);

@@ -1,19 +1,18 @@
 //! The benchmark: prints its tables as markdown, or does one thing alone, so that its instructions can
 //! be counted.
 
-// The C runtime calls main itself: the standard library's start asks for the bounds of the stack, and
-// the kit's emulator does not live through that.
-#![no_main]
-
 mod clock;
 mod library;
 
-use bench::cases::blob_rule;
+use std::env;
+use std::process::ExitCode;
+
 use bench::images::{all_cases, chain, largest, sized, small, PARTS};
 use bench::table::{digits, figures, head, least, row, COLUMNS};
 use bench::{measure, Call, Figures, Interpreter, Second, Work, CASES, ROUNDS};
 use clock::processor_time;
 use library::Library;
+use rules::classifier;
 
 /// The steps that are timed, and those before them: by then the stacks are as full as they get.
 const STEPS: u32 = 100_000;
@@ -67,7 +66,7 @@ fn print_steps() {
 }
 
 fn print_rule() {
-    let works = [small(blob_rule), largest(blob_rule)];
+    let works = [small(classifier::add), largest(classifier::add)];
     let works = works.map(|image| Work::new(Call::Whole, &image, 0));
     let title = "Time of a blob's decision: load, and a run of the rule to HALT";
     print_head(title, &["image and stacks"], &[]);
@@ -152,9 +151,8 @@ fn do_alone(name: &str, side: &str, times: u32) {
     work.repeat(side, &mut work.own(), times);
 }
 
-#[no_mangle]
-extern "C" fn main() -> i32 {
-    let words: Vec<String> = std::env::args().skip(1).collect();
+fn main() -> ExitCode {
+    let words: Vec<String> = env::args().skip(1).collect();
     let words: Vec<&str> = words.iter().map(String::as_str).collect();
     match words[..] {
         [] => print_tables(),
@@ -163,8 +161,8 @@ extern "C" fn main() -> i32 {
         [name, side, times] => do_alone(name, side, times.parse().expect("it is a number")),
         _ => {
             eprintln!("bench [cases | calls | NAME library|second TIMES]");
-            return 2;
+            return ExitCode::from(2);
         }
     }
-    0
+    ExitCode::SUCCESS
 }

@@ -9,11 +9,11 @@ use crate::source::{address, nat, Program, Source};
 /// The pixels of the window, and as many marks.
 pub const PIXELS: usize = 8;
 
-/// The areas: the window, the marks that no rule is to see, and the sum.
+/// The area of the window.
 pub const WINDOW: usize = 0;
-/// The marks.
+/// The area of the marks, which no rule is to see.
 pub const MARKS: usize = 1;
-/// The sum.
+/// The area of the sum.
 pub const SUM: usize = 2;
 
 /// The rule.

@@ -1,5 +1,5 @@
 //! A classifier: over the differences of a blob's pixels from the frames around it, how many stand out
-//! of the film stock's noise, how far they go and what they come to. The verdict is T, paint it out,
+//! of the film stock's noise, how far they go and what they come to. The decision is T, paint it out,
 //! where at least 8 stand out and either one goes beyond 36 or all come to more than 2,000.
 
 use second::generate::ImageBuilder;
@@ -11,12 +11,12 @@ use crate::source::{address, int, nat, truth, If, Program, Source};
 /// The pixels of a blob.
 pub const PIXELS: usize = 128;
 
-/// The areas: the pixels' differences, the film stock (0 fine, 1 common, 2 coarse), and the verdict.
+/// The area of the pixels' differences.
 pub const WINDOW: usize = 0;
-/// The film stock.
+/// The area of the film stock: 0 fine, 1 common, 2 coarse.
 pub const STOCK: usize = 1;
-/// The verdict.
-pub const VERDICT: usize = 2;
+/// The area of the decision.
+pub const DECISION: usize = 2;
 
 /// The rule.
 pub fn source() -> Source {
@@ -88,11 +88,11 @@ pub fn source() -> Source {
         .push_local("sum")
         .then(LtInt)
         .then(OrBool)
-        .pop_global("verdict")
+        .pop_global("decision")
         .then(Ret)
         .label("let it be")
         .push_constant(truth(false))
-        .pop_global("verdict")
+        .pop_global("decision")
         .then(Ret);
 
     let absolute = Program::new("absolute")
@@ -109,7 +109,7 @@ pub fn source() -> Source {
     Source::default()
         .area("window", &differences)
         .area("stock", &[Cell::nat(1)])
-        .area("verdict", &[Cell::bool(false)])
+        .area("decision", &[Cell::bool(false)])
         .program(classifier)
         .program(absolute)
 }
@@ -121,5 +121,5 @@ pub fn add(parts: &mut ImageBuilder) -> u16 {
 
 /// The packed image.
 pub fn image() -> Vec<u8> {
-    source().pack(12, 4)
+    source().pack(12, 3)
 }

@@ -1,5 +1,5 @@
 //! Contrast against the frame before: a speck is in one frame only, so the blob's pixels differ much
-//! from the same pixels of the frame before. The verdict is T, paint it out, where the differences add
+//! from the same pixels of the frame before. The decision is T, paint it out, where the differences add
 //! to more than 480.
 
 use second::Cell;
@@ -10,12 +10,12 @@ use crate::source::{address, int, nat, If, Program, Source};
 /// The pixels of a blob.
 pub const PIXELS: usize = 16;
 
-/// The areas: the pixels of this frame, those of the frame before, and the verdict.
+/// The area of the pixels in this frame.
 pub const NOW: usize = 0;
-/// The frame before.
+/// The area of the same pixels in the frame before.
 pub const BEFORE: usize = 1;
-/// The verdict.
-pub const VERDICT: usize = 2;
+/// The area of the decision.
+pub const DECISION: usize = 2;
 
 /// The rule.
 pub fn source() -> Source {
@@ -61,12 +61,12 @@ pub fn source() -> Source {
         .push_constant(int(480))
         .push_local("sum")
         .then(LtInt)
-        .pop_global("verdict")
+        .pop_global("decision")
         .then(Ret);
     Source::default()
         .area("now", &[Cell::int(0); PIXELS])
         .area("before", &[Cell::int(0); PIXELS])
-        .area("verdict", &[Cell::bool(false)])
+        .area("decision", &[Cell::bool(false)])
         .program(contrast)
 }
 

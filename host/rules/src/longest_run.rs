@@ -1,5 +1,5 @@
 //! Longest bright run: dust is small, and where many bright pixels follow one another there is an edge
-//! of the picture. The verdict is T, paint it out, where the longest run of pixels above 128 has 1 to 4
+//! of the picture. The decision is T, paint it out, where the longest run of pixels above 128 has 1 to 4
 //! pixels.
 
 use second::Cell;
@@ -10,11 +10,11 @@ use crate::source::{address, nat, If, Program, Source};
 /// The pixels of a blob.
 pub const PIXELS: usize = 16;
 
-/// The areas: the pixels, the verdict, and the longest run for whom it may concern.
+/// The area of the pixels.
 pub const WINDOW: usize = 0;
-/// The verdict.
-pub const VERDICT: usize = 1;
-/// The longest run.
+/// The area of the decision.
+pub const DECISION: usize = 1;
+/// The area of the longest run, for a host that wants to show it.
 pub const LONGEST: usize = 2;
 
 /// The rule.
@@ -60,11 +60,11 @@ pub fn source() -> Source {
         .push_constant(nat(5))
         .then(LtNat)
         .then(AndBool)
-        .pop_global("verdict")
+        .pop_global("decision")
         .then(Ret);
     Source::default()
         .area("window", &[Cell::nat(0); PIXELS])
-        .area("verdict", &[Cell::bool(false)])
+        .area("decision", &[Cell::bool(false)])
         .area("longest", &[Cell::nat(0)])
         .program(longest_run)
 }

@@ -65,7 +65,7 @@ enum Operand {
     Area(&'static str),
     Program(&'static str),
     Local(&'static str),
-    Label(If, &'static str),
+    Label(u8, &'static str),
     Labels(Vec<&'static str>),
 }
 
@@ -156,7 +156,7 @@ impl Program {
 
     /// JUMP.
     pub fn jump(self, label: &'static str) -> Program {
-        self.line(Jump, Operand::Label(If::Zero, label))
+        self.line(Jump, Operand::Label(0, label))
     }
 
     /// JUMP-CASE: the NAT on top chooses the label.
@@ -166,7 +166,7 @@ impl Program {
 
     /// A TEST that jumps.
     pub fn test(self, operation: Operation, when: If, label: &'static str) -> Program {
-        self.line(operation, Operand::Label(when, label))
+        self.line(operation, Operand::Label(when.number(), label))
     }
 }
 
@@ -274,7 +274,7 @@ impl Place<'_> {
                 let temps = program.temps.iter().map(|temp| temp.0);
                 operation.with(number(program.formals.iter().copied().chain(temps), local))
             }
-            Operand::Label(when, name) => operation.when(when.number(), label(name)),
+            Operand::Label(condition, name) => operation.when(*condition, label(name)),
             Operand::Labels(names) => {
                 let own = self.program(program.name);
                 let places = names.iter().map(|name| Cell::pc(own, label(name).into()));

@@ -1,5 +1,24 @@
 //! A rule written line by line, with names for areas, programs, locals and labels, as source 000
 //! writes Piton; and packed into an image.
+//!
+//! ```
+//! use rules::source::{nat, Program, Source};
+//! use second::Cell;
+//! use second::Operation::{Ret, SubNat};
+//!
+//! // Document 01's worked image.
+//! let program = Program::new("worked")
+//!     .push_global("numbers")
+//!     .push_constant(nat(1))
+//!     .then(SubNat)
+//!     .pop_global("numbers")
+//!     .then(Ret);
+//! let rule = Source::default()
+//!     .area("numbers", &[Cell::nat(3), Cell::nat(9)])
+//!     .program(program);
+//! assert_eq!(rule.pack(2, 2), std::fs::read("../images/worked.image")?);
+//! # Ok::<(), std::io::Error>(())
+//! ```
 
 use second::generate::ImageBuilder;
 use second::Operation::{self, *};

@@ -10,7 +10,7 @@ use crate::case::{Call, Case, Lent, Outcome};
 use crate::difference::{differences, Difference};
 use crate::wire::{replies, requests, NUMBER_BYTES};
 
-/// The directory host/.
+/// The folder host/.
 pub fn host() -> &'static Path {
     let host = Path::new(env!("CARGO_MANIFEST_DIR")).parent();
     host.expect("this package is in host/")
@@ -31,17 +31,18 @@ pub struct Library {
 impl Library {
     /// Starts the bridge, which must have been built.
     pub fn start() -> Library {
-        let run = target().join("bridge/run");
+        let bridge = target().join("bridge");
         assert!(
-            run.exists(),
+            bridge.exists(),
             "{} is not there: host/bridge/build makes it",
-            run.display()
+            bridge.display()
         );
-        let mut process = Command::new(&run)
+        let mut process = Command::new(host().join("x86-64/run"))
+            .arg(&bridge)
             .stdin(Stdio::piped())
             .stdout(Stdio::piped())
             .spawn()
-            .unwrap_or_else(|error| panic!("{} does not start: {error}", run.display()));
+            .unwrap_or_else(|error| panic!("{} does not start: {error}", bridge.display()));
         let requests = process.stdin.take().expect("it is piped");
         let replies = process.stdout.take().expect("it is piped");
         Library {

@@ -1,4 +1,4 @@
-// An image's header words and records, read through the header's offsets, and the check of one cell against an image.
+// An image's header words, its records, read through a view that holds the header's offsets, and the check of one cell against an image.
 ghost use mathlib.Core.Path.{_≡_};
 ghost use mathlib.Core.Bool.{_&&_};
 ghost use lib.Dec.{eqb, ltb};

@@ -1,5 +1,5 @@
--- A record of a checked image lies in it, and what is read of a record is what stands at its place. Assumes nothing.
-use mathlib.Core.Path.{_≡_, ap, _∙_}
+-- The records of a checked image lie in it, and what is read of them is what stands at their place. Assumes nothing.
+use mathlib.Core.Path.{_≡_, refl, ap, _∙_}
 use mathlib.Core.List.{List}
 use Prim.Native.Nat.{ℕ, _+_, _*_, _<_, _≤_}
 use native.Mathlib.Omega.{arith}
@@ -9,83 +9,102 @@ use Rattle.scope.specs.declared.Cell.{Cell}
 use Rattle.scope.specs.declared.Instruction.{Instruction}
 use Rattle.scope.specs.Cells.{u16At, cellFrom}
 use Rattle.scope.specs.Image.{word, programField, areaField, instructionAt, constantAt, dataCellAt}
+use Rattle.cells.specs.Rows.{cellsFrom}
+use Rattle.scope.proofs.Tabs.{tab-same}
 use Rattle.cells.proofs.Octets.{byte-same, u16-same, cell-same}
 use Rattle.image.specs.declared.Offsets.{Offsets}
 use Rattle.image.specs.declared.Section.{Section}
 use Rattle.image.specs.declared.Section.the-variants.{Programs, Areas, Instructions, Constants, Cells}
 use Rattle.image.specs.Laid.{Laid}
-use Rattle.image.specs.View.{sizeOf, countOf, placeOf, IsRecord}
+use Rattle.image.specs.View.{sizeOf, countOf, placeOf, AreRecords}
 
 module _ (b : List ℕ) (at : Offsets) (l : Laid b at) where
-  -- a record's bytes are those at its place, and so is what is read of them
-  module _ (s : Section) (n : ℕ) (r : List ℕ) (is : IsRecord b at s n r) where
-    same : (k : ℕ) → k < sizeOf s → getD r (0 + k) 0 ≡ getD b (placeOf at s n + k) 0
-    same k h =
-        let e : 0 + k ≡ k = omega arith in
-        rw (e, is .bytes) (getD-take (sizeOf s) (drop (placeOf at s n) b) k 0 h ∙ getD-drop (placeOf at s n) b k 0)
+  -- the bytes of records are those at their place, and so is what is read of them
+  module _ (s : Section) (n k : ℕ) (r : List ℕ) (are : AreRecords b at s n k r) where
+    same : (j : ℕ) → j < sizeOf s * k → getD r (0 + j) 0 ≡ getD b (placeOf at s n + j) 0
+    same j h =
+        let e : 0 + j ≡ j = omega arith in
+        rw (e, are .bytes) (getD-take (sizeOf s * k) (drop (placeOf at s n) b) j 0 h ∙ getD-drop (placeOf at s n) b j 0)
 
-    byte-of : (k i : ℕ) → k < sizeOf s → i ≡ placeOf at s n + k → getD r k 0 ≡ getD b i 0
-    byte-of k i h e = byte-same r b 0 (placeOf at s n) (sizeOf s) same k k i h (omega arith) e
+    byte-of : (j i : ℕ) → j < sizeOf s * k → i ≡ placeOf at s n + j → getD r j 0 ≡ getD b i 0
+    byte-of j i h e = byte-same r b 0 (placeOf at s n) (sizeOf s * k) same j j i h (omega arith) e
 
-    u16-of : (k i : ℕ) → k + 2 ≤ sizeOf s → i ≡ placeOf at s n + k → u16At r k ≡ u16At b i
-    u16-of k i h e = u16-same r b 0 (placeOf at s n) (sizeOf s) same k k i h (omega arith) e
+    u16-of : (j i : ℕ) → j + 2 ≤ sizeOf s * k → i ≡ placeOf at s n + j → u16At r j ≡ u16At b i
+    u16-of j i h e = u16-same r b 0 (placeOf at s n) (sizeOf s * k) same j j i h (omega arith) e
 
-    cell-of : (i : ℕ) → 8 ≤ sizeOf s → i ≡ placeOf at s n → cellFrom r 0 ≡ cellFrom b i
-    cell-of i h e = cell-same r b 0 (placeOf at s n) (sizeOf s) same 0 0 i (omega arith) (omega arith) (omega arith)
+    cell-of : (j i : ℕ) → j + 8 ≤ sizeOf s * k → i ≡ placeOf at s n + j → cellFrom r j ≡ cellFrom b i
+    cell-of j i h e = cell-same r b 0 (placeOf at s n) (sizeOf s * k) same j j i h (omega arith) e
 
-  record-in : (s : Section) (n : ℕ) → n < countOf s b → placeOf at s n + sizeOf s ≤ length b
-  record-in Programs n h = omega (arith, l .programs-in)
-  record-in Areas n h = omega (arith, l .areas-in)
-  record-in Instructions n h = omega (arith, l .instructions-in)
-  record-in Constants n h = omega (arith, l .constants-in)
-  record-in Cells n h = omega (arith, l .cells-in)
+  records-in : (s : Section) (n k : ℕ) → n + k ≤ countOf s b → placeOf at s n + sizeOf s * k ≤ length b
+  records-in Programs n k h = omega (arith, l .programs-in)
+  records-in Areas n k h = omega (arith, l .areas-in)
+  records-in Instructions n k h = omega (arith, l .instructions-in)
+  records-in Constants n k h = omega (arith, l .constants-in)
+  records-in Cells n k h = omega (arith, l .cells-in)
 
-  -- what `record_of` asks and gives
-  module _ (s : Section) (n : ℕ) (h : n < countOf s b) where
-    pub part-in : (from size : ℕ) → from ≡ placeOf at s n → size ≡ sizeOf s → from + size ≤ length b
-    part-in from size e f = omega (arith, record-in s n h)
-
+  -- what `records_of` asks and gives
+  module _ (s : Section) (n k : ℕ) (h : n + k ≤ countOf s b) where
     pub place-small : placeOf at s n < 65536
-    place-small = omega (arith, l .small, record-in s n h)
+    place-small = omega (arith, l .small, records-in s n k h)
 
-    pub is-record : (from size : ℕ) (r : List ℕ) → from ≡ placeOf at s n → size ≡ sizeOf s → r ≡ take size (drop from b)
-        → IsRecord b at s n r
-    is-record from size r e f g =
-        let all : r ≡ take (sizeOf s) (drop (placeOf at s n) b) = g ∙ (λ j. take (f j) (drop (e j) b)) in
+    pub span-small : sizeOf s * k < 65536
+    span-small = omega (arith, l .small, records-in s n k h)
+
+    pub part-in : (from long : ℕ) → from ≡ placeOf at s n → long ≡ sizeOf s * k → from + long ≤ length b
+    part-in from long e f = omega (arith, records-in s n k h)
+
+    pub are-records : (from long : ℕ) (r : List ℕ) → from ≡ placeOf at s n → long ≡ sizeOf s * k → r ≡ take long (drop from b)
+        → AreRecords b at s n k r
+    are-records from long r e f g =
+        let all : r ≡ take (sizeOf s * k) (drop (placeOf at s n) b) = g ∙ (λ j. take (f j) (drop (e j) b)) in
         record {
           bytes = all;
-          long = ap length all ∙ length-take-le (sizeOf s) (drop (placeOf at s n) b)
-              (omega (arith, record-in s n h, length-drop (placeOf at s n) b));
+          long = ap length all ∙ length-take-le (sizeOf s * k) (drop (placeOf at s n) b)
+              (omega (arith, records-in s n k h, length-drop (placeOf at s n) b));
         }
 
   -- what each reader returns, from the record that it was handed
   module _ (n : ℕ) (r : List ℕ) where
-    pub program-read : (k f : ℕ) → IsRecord b at Programs n r → f ≡ u16At r (2 * k) → k < 6 → f ≡ programField b n k
+    pub program-read : (k f : ℕ) → AreRecords b at Programs n 1 r → f ≡ u16At r (2 * k) → k < 6 → f ≡ programField b n k
     unfolding programField
-    program-read k f is e h = e ∙ u16-of Programs n r is (2 * k) _ (omega arith) (omega (arith, l .programs-at))
+    program-read k f are e h = e ∙ u16-of Programs n 1 r are (2 * k) _ (omega arith) (omega (arith, l .programs-at))
 
-    pub area-read : (k f : ℕ) → IsRecord b at Areas n r → f ≡ u16At r (2 * k) → k < 2 → f ≡ areaField b n k
+    pub area-read : (k f : ℕ) → AreRecords b at Areas n 1 r → f ≡ u16At r (2 * k) → k < 2 → f ≡ areaField b n k
     unfolding areaField
-    area-read k f is e h = e ∙ u16-of Areas n r is (2 * k) _ (omega arith) (omega (arith, l .areas-at))
+    area-read k f are e h = e ∙ u16-of Areas n 1 r are (2 * k) _ (omega arith) (omega (arith, l .areas-at))
 
-    pub instruction-read : (x y u v z : ℕ) → IsRecord b at Instructions n r → x ≡ getD r 0 0 → y ≡ getD r 1 0 → u ≡ u16At r 2
+    pub instruction-read : (x y u v z : ℕ) → AreRecords b at Instructions n 1 r → x ≡ getD r 0 0 → y ≡ getD r 1 0 → u ≡ u16At r 2
         → v ≡ u16At r 4 → z ≡ u16At r 6 → record { code = x; condition = y; a = u; b = v; zero = z } ≡ instructionAt b n
     unfolding instructionAt
-    instruction-read x y u v z is ex ey eu ev ez =
+    instruction-read x y u v z are ex ey eu ev ez =
         let i : ℕ = word b 8 + 8 * n in
         let e : i ≡ placeOf at Instructions n = omega (arith, l .instructions-at) in
         λ j. record {
-          code = (ex ∙ byte-of Instructions n r is 0 i (omega arith) (omega arith)) j;
-          condition = (ey ∙ byte-of Instructions n r is 1 (i + 1) (omega arith) (omega arith)) j;
-          a = (eu ∙ u16-of Instructions n r is 2 (i + 2) (omega arith) (omega arith)) j;
-          b = (ev ∙ u16-of Instructions n r is 4 (i + 4) (omega arith) (omega arith)) j;
-          zero = (ez ∙ u16-of Instructions n r is 6 (i + 6) (omega arith) (omega arith)) j;
+          code = (ex ∙ byte-of Instructions n 1 r are 0 i (omega arith) (omega arith)) j;
+          condition = (ey ∙ byte-of Instructions n 1 r are 1 (i + 1) (omega arith) (omega arith)) j;
+          a = (eu ∙ u16-of Instructions n 1 r are 2 (i + 2) (omega arith) (omega arith)) j;
+          b = (ev ∙ u16-of Instructions n 1 r are 4 (i + 4) (omega arith) (omega arith)) j;
+          zero = (ez ∙ u16-of Instructions n 1 r are 6 (i + 6) (omega arith) (omega arith)) j;
         }
 
-    pub constant-read : (c : Cell) → IsRecord b at Constants n r → c ≡ cellFrom r 0 → c ≡ constantAt b n
-    constant-read c is e = e ∙ cell-of Constants n r is _ (omega arith) (omega (arith, l .constants-at))
+    pub constant-read : (c : Cell) → AreRecords b at Constants n 1 r → c ≡ cellFrom r 0 → c ≡ constantAt b n
+    constant-read c are e = e ∙ cell-of Constants n 1 r are 0 _ (omega arith) (omega (arith, l .constants-at))
 
-    pub data-read : (c : Cell) → IsRecord b at Cells n r → c ≡ cellFrom r 0 → c ≡ dataCellAt b n
-    data-read c is e = e ∙ cell-of Cells n r is _ (omega arith) (omega (arith, l .cells-at))
+    pub data-read : (c : Cell) → AreRecords b at Cells n 1 r → c ≡ cellFrom r 0 → c ≡ dataCellAt b n
+    data-read c are e = e ∙ cell-of Cells n 1 r are 0 _ (omega arith) (omega (arith, l .cells-at))
+
+  -- cells in a row
+  module _ (n k : ℕ) (r : List ℕ) where
+    cells-read : (s : Section) (i : ℕ) → sizeOf s ≡ 8 → AreRecords b at s n k r → i ≡ placeOf at s n → cellsFrom r 0 k ≡ cellsFrom b i k
+    unfolding cellsFrom
+    cells-read s i eight are e =
+        tab-same (λ j. cellFrom r (0 + 8 * j)) (λ j. cellFrom b (i + 8 * j)) k
+        (λ j h. cell-of s n k r are (0 + 8 * j) (i + 8 * j) (rw eight (omega arith)) (omega arith))
+
+    pub constants-read : AreRecords b at Constants n k r → cellsFrom r 0 k ≡ cellsFrom b (word b 9 + 8 * n) k
+    constants-read are = cells-read Constants _ refl are (omega (arith, l .constants-at))
+
+    pub data-cells-read : AreRecords b at Cells n k r → cellsFrom r 0 k ≡ cellsFrom b (word b 10 + 8 * n) k
+    data-cells-read are = cells-read Cells _ refl are (omega (arith, l .cells-at))
 
 pub ruleset records = (program-read, area-read, instruction-read, constant-read, data-read)

@@ -1,4 +1,4 @@
--- The view of a checked image: a record of a section is the bytes at its place.
+-- The view of a checked image: records of a section are the bytes at their place.
 use mathlib.Core.Path.{_≡_}
 use mathlib.Core.List.{List}
 use Prim.Native.Nat.{ℕ, _+_, _*_}
@@ -37,7 +37,7 @@ countOf Cells b = dataCells b
 abbrev pub placeOf : Offsets → Section → ℕ → ℕ
 placeOf at s n = beginOf at s + sizeOf s * n
 
--- bytes that are record n of a section
-pub record IsRecord (b : List ℕ) (at : Offsets) (s : Section) (n : ℕ) (r : List ℕ) : Type 0 where
-  pub bytes : r ≡ take (sizeOf s) (drop (placeOf at s n) b)
-  pub long : length r ≡ sizeOf s
+-- bytes that are k records of a section, from record n on
+pub record AreRecords (b : List ℕ) (at : Offsets) (s : Section) (n k : ℕ) (r : List ℕ) : Type 0 where
+  pub bytes : r ≡ take (sizeOf s * k) (drop (placeOf at s n) b)
+  pub long : length r ≡ sizeOf s * k

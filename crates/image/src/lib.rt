@@ -9,7 +9,7 @@ ghost use Rattle.scope.specs.Image.{word, programs, areas, instructions, consta
 ghost use Rattle.scope.specs.Image.{instructionAt, constantAt, dataCellAt, areaLength, instructionCount};
 ghost use Rattle.scope.specs.Checks.{boundsOf};
 ghost use Rattle.image.specs.Laid.{countsOf, offsetsOf, Laid, Counted};
-ghost use Rattle.image.specs.View.{beginOf, sizeOf, countOf, placeOf, viewOf, IsRecord};
+ghost use Rattle.image.specs.View.{beginOf, sizeOf, countOf, placeOf, viewOf, AreRecords};
 use scope::Cell;
 use scope::DataOffset;
 use scope::Instruction;
@@ -118,12 +118,20 @@ fn size(s: Section) -> usize
     }
 }
 
+// How many bytes k records of a section have.
+fn span(s: Section, k: usize) -> usize
+    requires { ⌜ sizeOf s * k < 65536 ⌝ }
+    ensures { λ r. ⌜ r ≡ sizeOf s * k ⌝ }
+{
+    size(s) * k
+}
+
 // Where record n of a section begins.
 fn place(at: Offsets, s: Section, n: usize) -> usize
     requires { ⌜ placeOf at s n < 65536 ⌝ }
     ensures { λ r. ⌜ r ≡ placeOf at s n ⌝ }
 {
-    begin(at, s) + size(s) * n
+    begin(at, s) + span(s, n)
 }
 
 fn part<'a>(image: &'a [u8], from: usize, long: usize) -> &'a [u8]
@@ -141,20 +149,20 @@ pub fn view_of<'a>(image: &'a [u8], at: Offsets) -> View<'a>
     View { image, at }
 }
 
-// The bytes of record n of a section.
-pub fn record_of<'a>(v: View<'a>, s: Section, n: usize) -> &'a [u8]
-    requires { ⌜ Laid (now (v .image)) (v .at) × (n < countOf s (now (v .image))) ⌝ }
-    ensures { λ r. ⌜ IsRecord (now (v .entry .image)) (v .entry .at) s n (now r) ⌝ }
+// The bytes of k records of a section, from record n on.
+pub fn records_of<'a>(v: View<'a>, s: Section, n: usize, k: usize) -> &'a [u8]
+    requires { ⌜ Laid (now (v .image)) (v .at) × (n + k ≤ countOf s (now (v .image))) ⌝ }
+    ensures { λ r. ⌜ AreRecords (now (v .entry .image)) (v .entry .at) s n k (now r) ⌝ }
 {
-    part(v.image, place(v.at, s, n), size(s))
+    part(v.image, place(v.at, s, n), span(s, k))
 }
 
 // The same with plain parameters: callers need no walk.
-fn record_at<'a>(image: &'a [u8], at: Offsets, s: Section, n: usize) -> &'a [u8]
-    requires { ⌜ Laid (now image) at × (n < countOf s (now image)) ⌝ }
-    ensures { λ r. ⌜ IsRecord (now (image .entry)) at s n (now r) ⌝ }
+pub fn records_at<'a>(image: &'a [u8], at: Offsets, s: Section, n: usize, k: usize) -> &'a [u8]
+    requires { ⌜ Laid (now image) at × (n + k ≤ countOf s (now image)) ⌝ }
+    ensures { λ r. ⌜ AreRecords (now (image .entry)) at s n k (now r) ⌝ }
 {
-    record_of(view_of(image, at), s, n)
+    records_of(view_of(image, at), s, n, k)
 }
 
 // Field k of program p.
@@ -162,7 +170,7 @@ pub fn program_field(image: &[u8], at: Offsets, p: usize, k: usize) -> u16
     requires { ⌜ Laid (now image) at × (p < programs (now image)) × (k < 6) ⌝ }
     ensures { λ r. ⌜ r ≡ programField (now (image .entry)) p k ⌝ }
 {
-    cells::get16(record_at(image, at, Section::Programs, p), 2 * k)
+    cells::get16(records_at(image, at, Section::Programs, p, 1), 2 * k)
 }
 
 // Field k of area a.
@@ -170,7 +178,7 @@ pub fn area_field(image: &[u8], at: Offsets, a: usize, k: usize) -> u16
     requires { ⌜ Laid (now image) at × (a < areas (now image)) × (k < 2) ⌝ }
     ensures { λ r. ⌜ r ≡ areaField (now (image .entry)) a k ⌝ }
 {
-    cells::get16(record_at(image, at, Section::Areas, a), 2 * k)
+    cells::get16(records_at(image, at, Section::Areas, a, 1), 2 * k)
 }
 
 // Instruction i of the image.
@@ -178,7 +186,7 @@ pub fn instruction(image: &[u8], at: Offsets, i: usize) -> Instruction
     requires { ⌜ Laid (now image) at × (i < instructions (now image)) ⌝ }
     ensures { λ r. ⌜ r ≡ instructionAt (now (image .entry)) i ⌝ }
 {
-    let bytes = record_at(image, at, Section::Instructions, i);
+    let bytes = records_at(image, at, Section::Instructions, i, 1);
     Instruction {
         code: bytes[0],
         condition: bytes[1],
@@ -192,14 +200,14 @@ pub fn constant(image: &[u8], at: Offsets, k: usize) -> Cell
     requires { ⌜ Laid (now image) at × (k < constants (now image)) ⌝ }
     ensures { λ r. ⌜ r ≡ constantAt (now (image .entry)) k ⌝ }
 {
-    cells::get_from(record_at(image, at, Section::Constants, k), 0)
+    cells::get_from(records_at(image, at, Section::Constants, k, 1), 0)
 }
 
 pub fn data_cell(image: &[u8], at: Offsets, k: usize) -> Cell
     requires { ⌜ Laid (now image) at × (k < dataCells (now image)) ⌝ }
     ensures { λ r. ⌜ r ≡ dataCellAt (now (image .entry)) k ⌝ }
 {
-    cells::get_from(record_at(image, at, Section::Cells, k), 0)
+    cells::get_from(records_at(image, at, Section::Cells, k, 1), 0)
 }
 
 // "offset below the area's length"

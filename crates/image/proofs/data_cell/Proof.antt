@@ -5,10 +5,10 @@ use Rattle.image.proofs.data_cell.Tie as tie
 use Rattle.image.proofs.data_cell.Reads as reads
 use Rattle.image.proofs.data_cell.Lts as lts
 use Rattle.cells.proofs.get_from.Reads as get-from-reads
-use Rattle.image.proofs.record_at.Reads as record-at-reads
+use Rattle.image.proofs.records_at.Reads as records-at-reads
 
-record-at-requires : tie.Need-record-at-requires
-record-at-requires c κs = search needs
+records-at-requires : tie.Need-records-at-requires
+records-at-requires c κs = search needs
 
 get-from-requires : tie.Need-get-from-requires
 get-from-requires c κs = search needs
@@ -17,4 +17,4 @@ returns : tie.Need-returns
 returns c = search records
 
 pub data-cell-spec : {M : Type 1} → statement M
-data-cell-spec = tie.close (tie.spec record-at-requires get-from-requires returns)
+data-cell-spec = tie.close (tie.spec records-at-requires get-from-requires returns)

@@ -5,10 +5,10 @@ use Rattle.image.proofs.instruction.Tie as tie
 use Rattle.image.proofs.instruction.Reads as reads
 use Rattle.image.proofs.instruction.Lts as lts
 use Rattle.cells.proofs.get16.Reads as get16-reads
-use Rattle.image.proofs.record_at.Reads as record-at-reads
+use Rattle.image.proofs.records_at.Reads as records-at-reads
 
-record-at-requires : tie.Need-record-at-requires
-record-at-requires c κs = search needs
+records-at-requires : tie.Need-records-at-requires
+records-at-requires c κs = search needs
 
 shared-slice-read-t7 : tie.Need-shared-slice-read-t7
 shared-slice-read-t7 c = search needs
@@ -32,7 +32,7 @@ pub instruction-spec : {M : Type 1} → statement M
 instruction-spec =
     tie.close
     (tie.spec
-    record-at-requires
+    records-at-requires
     shared-slice-read-t7
     shared-slice-read-t9
     get16-requires

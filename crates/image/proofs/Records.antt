@@ -1,5 +1,5 @@
 -- The records of a checked image lie in it, and what is read of them is what stands at their place. Assumes nothing.
-use mathlib.Core.Path.{_≡_, refl, ap, _∙_}
+use mathlib.Core.Path.{_≡_, ap, _∙_}
 use mathlib.Core.List.{List}
 use Prim.Native.Nat.{ℕ, _+_, _*_, _<_, _≤_}
 use native.Mathlib.Omega.{arith}
@@ -93,18 +93,13 @@ module _ (b : List ℕ) (at : Offsets) (l : Laid b at) where
     pub data-read : (c : Cell) → AreRecords b at Cells n 1 r → c ≡ cellFrom r 0 → c ≡ dataCellAt b n
     data-read c are e = e ∙ cell-of Cells n 1 r are 0 _ (omega arith) (omega (arith, l .cells-at))
 
-  -- cells in a row
-  module _ (n k : ℕ) (r : List ℕ) where
-    cells-read : (s : Section) (i : ℕ) → sizeOf s ≡ 8 → AreRecords b at s n k r → i ≡ placeOf at s n → cellsFrom r 0 k ≡ cellsFrom b i k
+  -- k cells in a row, from record n on
+  module _ (n k : ℕ) (r : List ℕ) (s : Section) (i : ℕ) (eight : sizeOf s ≡ 8) (are : AreRecords b at s n k r) (e : i ≡ placeOf at s n) where
+    pub cell-read : (j : ℕ) → j < k → cellFrom r (0 + 8 * j) ≡ cellFrom b (i + 8 * j)
+    cell-read j h = cell-of s n k r are (0 + 8 * j) (i + 8 * j) (rw eight (omega arith)) (omega arith)
+
+    pub cells-read : cellsFrom r 0 k ≡ cellsFrom b i k
     unfolding cellsFrom
-    cells-read s i eight are e =
-        tab-same (λ j. cellFrom r (0 + 8 * j)) (λ j. cellFrom b (i + 8 * j)) k
-        (λ j h. cell-of s n k r are (0 + 8 * j) (i + 8 * j) (rw eight (omega arith)) (omega arith))
-
-    pub constants-read : AreRecords b at Constants n k r → cellsFrom r 0 k ≡ cellsFrom b (word b 9 + 8 * n) k
-    constants-read are = cells-read Constants _ refl are (omega (arith, l .constants-at))
-
-    pub data-cells-read : AreRecords b at Cells n k r → cellsFrom r 0 k ≡ cellsFrom b (word b 10 + 8 * n) k
-    data-cells-read are = cells-read Cells _ refl are (omega (arith, l .cells-at))
+    cells-read = tab-same (λ j. cellFrom r (0 + 8 * j)) (λ j. cellFrom b (i + 8 * j)) k cell-read
 
 pub ruleset records = (program-read, area-read, instruction-read, constant-read, data-read)

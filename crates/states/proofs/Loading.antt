@@ -160,4 +160,4 @@ holds-initial b d t c d′ t′ c′ words p q r =
       control = r .filled;
     }
 
-pub ruleset loading = (cleared, areas-loaded, initial-in, temps-room, bottom-loaded, linked, lengths-kept, holds-initial, arith)
+pub ruleset loading = (cleared, areas-loaded, initial-in, temps-room, linked, lengths-kept, holds-initial, arith)

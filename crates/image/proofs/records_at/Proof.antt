@@ -147,7 +147,8 @@ module _ {M : Type 1} (𝓤 : URA M) (H : Heap 𝓤) (A : Atoms 𝓤) (W : Given
     exits r u e =
         qed W (‵ (Bytes κ .own r (u ∷ [])) ∷ Tok ∷ ‵ Own ∷ []) ∵
         suffices ! _ (ends-at 𝓤 H A f.ended stayed (f.clauses 𝓤 H A mem run) W (((κ, tt), (q, tt), tt, a, vals), tt) u r
-        (tt, (tt, (tt, (tt, (tt, tt))))) (tt, (tt, (tt, (tt, (tt, tt)))))) $ says ! e $ move ! (1 ∷ []) $ frame ! $ nothing ! $ has-number ! k _ is-k $ fjoin ! $ has-number ! n _ is-n $
+        (tt, (tt, (tt, (tt, (tt, tt))))) (tt, (tt, (tt, (tt, (tt, tt)))))) $ says ! e $ move ! (1 ∷ []) $ frame ! $ nothing ! $ has-number ! k _ is-k $
+        fjoin ! $ has-number ! n _ is-n $
         fjoin ! $ has-section ! s _ is-s $ fjoin ! $ has-offsets ! o _ is-o $ fjoin ! $ move ! (2 ∷ 0 ∷ []) $ fjoin ! $ frame ! $ done !
 
     module _ (C : Calls 𝓤 H) (Λ : Loops 𝓤 H) (fm : FmC 𝓤 H (W .laws) C) (known-made : Triple 𝓤 (C #image·view-of) (Made 𝓤 H A mem run))
@@ -177,7 +178,8 @@ module _ {M : Type 1} (𝓤 : URA M) (H : Heap 𝓤) (A : Atoms 𝓤) (W : Given
           -- [the result; the token; what image owns; _6 at 3; …; room for _0 at 15; …]
           land ! (from ! (stop !)) (init ! 15 refl (shr-slice-lawful 𝓤 H A W (named 0) κ u8 .typed r (w ∷ []) is′ .0)) $
           returns ! (look ! 15 refl) $ forget ! 3 refl $ forget ! 5 refl $ forget ! 7 refl $ forget ! 9 refl $ forget ! 11 refl $
-          forget ! 13 refl $ forget ! 15 refl $ move ! (15 ∷ 16 ∷ []) $ free1 ! $ move ! (13 ∷ 14 ∷ []) $ free1 ! $ move ! (11 ∷ 12 ∷ []) $ free1 ! $ move ! (9 ∷ 10 ∷ []) $ free1 ! $
+          forget ! 13 refl $ forget ! 15 refl $ move ! (15 ∷ 16 ∷ []) $ free1 ! $ move ! (13 ∷ 14 ∷ []) $ free1 ! $
+          move ! (11 ∷ 12 ∷ []) $ free1 ! $ move ! (9 ∷ 10 ∷ []) $ free1 ! $
           move ! (7 ∷ 8 ∷ []) $ free1 ! $ move ! (5 ∷ 6 ∷ []) $ free1 ! $ move ! (3 ∷ 4 ∷ []) $ free1 ! $ free0 ! $
           by ! (exits r w e′))))))))))))
 

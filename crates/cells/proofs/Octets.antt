@@ -6,7 +6,7 @@ use native.Mathlib.Omega.{arith}
 use lib.ListN.{length, getD, set, length-set}
 use lib.Seq.{sets, getD-set-same, getD-set-other}
 use Rattle.scope.specs.declared.Cell.{Cell}
-use Rattle.scope.specs.Cells.{u16At, u32At, cellAt, bytesOf, Bytes}
+use Rattle.scope.specs.Cells.{u16At, u32At, cellFrom, cellAt, bytesOf, Bytes}
 use Rattle.cells.specs.Rows.{putAt, Fit}
 
 -- ---- stores in a row
@@ -76,27 +76,34 @@ bytes-of-cell b i p (suc (suc (suc (suc (suc (suc (suc zero))))))) h =
     rw e (omega (arith, p (8 * i + 4), p (8 * i + 4 + 1), p (8 * i + 4 + 2), p (8 * i + 4 + 3)))
 bytes-of-cell b i p (suc (suc (suc (suc (suc (suc (suc (suc m)))))))) h = absurd (omega arith)
 
--- the same bytes are the same cell
+-- n bytes from i on in a and from j on in b are the same: so is what is read m bytes further on
+module _ (a b : List ℕ) (i j n : ℕ) (same : (m : ℕ) → m < n → getD a (i + m) 0 ≡ getD b (j + m) 0) where
+  pub byte-same : (m x y : ℕ) → m < n → x ≡ i + m → y ≡ j + m → getD a x 0 ≡ getD b y 0
+  byte-same m x y h e f = rw (e, f) (same m h)
+
+  pub u16-same : (m x y : ℕ) → m + 2 ≤ n → x ≡ i + m → y ≡ j + m → u16At a x ≡ u16At b y
+  unfolding u16At
+  u16-same m x y h e f =
+      λ t. byte-same m x y (omega arith) e f t + 256 * byte-same (m + 1) (x + 1) (y + 1) (omega arith) (omega arith) (omega arith) t
+
+  u32-same : (m x y : ℕ) → m + 4 ≤ n → x ≡ i + m → y ≡ j + m → u32At a x ≡ u32At b y
+  unfolding u32At
+  u32-same m x y h e f =
+      λ t. byte-same m x y (omega arith) e f t + 256 * byte-same (m + 1) (x + 1) (y + 1) (omega arith) (omega arith) (omega arith) t
+      + 65536 * byte-same (m + 2) (x + 2) (y + 2) (omega arith) (omega arith) (omega arith) t
+      + 16777216 * byte-same (m + 3) (x + 3) (y + 3) (omega arith) (omega arith) (omega arith) t
+
+  pub cell-same : (m x y : ℕ) → m + 8 ≤ n → x ≡ i + m → y ≡ j + m → cellFrom a x ≡ cellFrom b y
+  cell-same m x y h e f =
+      λ t. record {
+        tag = byte-same m x y (omega arith) e f t;
+        zero = byte-same (m + 1) (x + 1) (y + 1) (omega arith) (omega arith) (omega arith) t;
+        name = u16-same (m + 2) (x + 2) (y + 2) (omega arith) (omega arith) (omega arith) t;
+        value = u32-same (m + 4) (x + 4) (y + 4) (omega arith) (omega arith) (omega arith) t;
+      }
+
 pub cell-by-bytes : (a b : List ℕ) (i j : ℕ) → ((m : ℕ) → m < 8 → getD a (8 * i + m) 0 ≡ getD b (8 * j + m) 0) → cellAt a i ≡ cellAt b j
-unfolding u16At u32At
-cell-by-bytes a b i j p =
-    let ei : 8 * i + 0 ≡ 8 * i = omega arith in
-    let ej : 8 * j + 0 ≡ 8 * j = omega arith in
-    let at : (m n s : ℕ) → m + n ≡ s → s < 8 → getD a (8 * i + m + n) 0 ≡ getD b (8 * j + m + n) 0 =
-    λ m n s e h.
-    let ai : 8 * i + m + n ≡ 8 * i + s = omega arith in
-    let aj : 8 * j + m + n ≡ 8 * j + s = omega arith in
-    rw (ai, aj) (p s h) in
-    rw (
-      rw (ei, ej) at (p 0 (omega arith)),
-      p 1 (omega arith),
-      p 2 (omega arith),
-      at 2 1 3 (omega arith) (omega arith),
-      p 4 (omega arith),
-      at 4 1 5 (omega arith) (omega arith),
-      at 4 2 6 (omega arith) (omega arith),
-      at 4 3 7 (omega arith) (omega arith),
-    )
+cell-by-bytes a b i j p = cell-same a b (8 * i) (8 * j) 8 p 0 (8 * i) (8 * j) (omega arith) (omega arith) (omega arith)
 
 -- the bytes of c are c
 two-digits : (n : ℕ) → n < 65536 → n % 256 + 256 * (n / 256 % 256) ≡ n

@@ -1,14 +1,15 @@
-// An image's header words and records, read through the header's offsets, and the check of one cell against an image.
+// An image's header words, its records, read through a view that holds the header's offsets, and the check of one cell against an image.
 ghost use mathlib.Core.Path.{_≡_};
 ghost use mathlib.Core.Bool.{_&&_};
 ghost use lib.Dec.{eqb, ltb};
 ghost use Prim.Native.Nat.{_+_, _*_, _<_, _≤_};
-ghost use lib.ListN.{length};
+ghost use lib.ListN.{length, take, drop};
 ghost use Rattle.scope.specs.Cells.{rowOf, objectp};
 ghost use Rattle.scope.specs.Image.{word, programs, areas, instructions, constants, dataCells, programField, areaField};
 ghost use Rattle.scope.specs.Image.{instructionAt, constantAt, dataCellAt, areaLength, instructionCount};
 ghost use Rattle.scope.specs.Checks.{boundsOf};
 ghost use Rattle.image.specs.Laid.{countsOf, offsetsOf, Laid, Counted};
+ghost use Rattle.image.specs.View.{beginOf, sizeOf, countOf, placeOf, viewOf, AreRecords};
 use scope::Cell;
 use scope::DataOffset;
 use scope::Instruction;
@@ -77,12 +78,99 @@ pub fn read_offsets(image: &[u8]) -> Offsets
     }
 }
 
+// A checked image and its five section offsets: what every record is read through.
+pub struct View<'a> {
+    pub image: &'a [u8],
+    pub at: Offsets,
+}
+
+pub enum Section {
+    Programs,
+    Areas,
+    Instructions,
+    Constants,
+    Cells,
+}
+
+// Where a section begins.
+fn begin(at: Offsets, s: Section) -> usize
+    ensures { λ r. ⌜ r ≡ beginOf at s ⌝ }
+{
+    match s {
+        Section::Programs => at.programs,
+        Section::Areas => at.areas,
+        Section::Instructions => at.instructions,
+        Section::Constants => at.constants,
+        Section::Cells => at.cells,
+    }
+}
+
+// How many bytes a record of a section has.
+fn size(s: Section) -> usize
+    ensures { λ r. ⌜ r ≡ sizeOf s ⌝ }
+{
+    match s {
+        Section::Programs => 12,
+        Section::Areas => 4,
+        Section::Instructions => 8,
+        Section::Constants => 8,
+        Section::Cells => 8,
+    }
+}
+
+// How many bytes k records of a section have.
+fn span(s: Section, k: usize) -> usize
+    requires { ⌜ sizeOf s * k < 65536 ⌝ }
+    ensures { λ r. ⌜ r ≡ sizeOf s * k ⌝ }
+{
+    size(s) * k
+}
+
+// Where record n of a section begins.
+fn place(at: Offsets, s: Section, n: usize) -> usize
+    requires { ⌜ placeOf at s n < 65536 ⌝ }
+    ensures { λ r. ⌜ r ≡ placeOf at s n ⌝ }
+{
+    begin(at, s) + span(s, n)
+}
+
+fn part<'a>(image: &'a [u8], from: usize, long: usize) -> &'a [u8]
+    requires { ⌜ from + long ≤ length (now image) ⌝ }
+    ensures { λ r. ⌜ now r ≡ take long (drop from (now (image .entry))) ⌝ }
+{
+    let end = from + long;
+    &image[from..end]
+}
+
+pub fn view_of<'a>(image: &'a [u8], at: Offsets) -> View<'a>
+    requires { ⌜ Laid (now image) at ⌝ }
+    ensures { λ r. ⌜ r ≡ viewOf (image .entry) at ⌝ }
+{
+    View { image, at }
+}
+
+// The bytes of k records of a section, from record n on.
+pub fn records_of<'a>(v: View<'a>, s: Section, n: usize, k: usize) -> &'a [u8]
+    requires { ⌜ Laid (now (v .image)) (v .at) × (n + k ≤ countOf s (now (v .image))) ⌝ }
+    ensures { λ r. ⌜ AreRecords (now (v .entry .image)) (v .entry .at) s n k (now r) ⌝ }
+{
+    part(v.image, place(v.at, s, n), span(s, k))
+}
+
+// The same with plain parameters: callers need no walk.
+pub fn records_at<'a>(image: &'a [u8], at: Offsets, s: Section, n: usize, k: usize) -> &'a [u8]
+    requires { ⌜ Laid (now image) at × (n + k ≤ countOf s (now image)) ⌝ }
+    ensures { λ r. ⌜ AreRecords (now (image .entry)) at s n k (now r) ⌝ }
+{
+    records_of(view_of(image, at), s, n, k)
+}
+
 // Field k of program p.
 pub fn program_field(image: &[u8], at: Offsets, p: usize, k: usize) -> u16
     requires { ⌜ Laid (now image) at × (p < programs (now image)) × (k < 6) ⌝ }
     ensures { λ r. ⌜ r ≡ programField (now (image .entry)) p k ⌝ }
 {
-    cells::get16(image, at.programs + 12 * p + 2 * k)
+    cells::get16(records_at(image, at, Section::Programs, p, 1), 2 * k)
 }
 
 // Field k of area a.
@@ -90,7 +178,7 @@ pub fn area_field(image: &[u8], at: Offsets, a: usize, k: usize) -> u16
     requires { ⌜ Laid (now image) at × (a < areas (now image)) × (k < 2) ⌝ }
     ensures { λ r. ⌜ r ≡ areaField (now (image .entry)) a k ⌝ }
 {
-    cells::get16(image, at.areas + 4 * a + 2 * k)
+    cells::get16(records_at(image, at, Section::Areas, a, 1), 2 * k)
 }
 
 // Instruction i of the image.
@@ -98,13 +186,13 @@ pub fn instruction(image: &[u8], at: Offsets, i: usize) -> Instruction
     requires { ⌜ Laid (now image) at × (i < instructions (now image)) ⌝ }
     ensures { λ r. ⌜ r ≡ instructionAt (now (image .entry)) i ⌝ }
 {
-    let from = at.instructions + 8 * i;
+    let bytes = records_at(image, at, Section::Instructions, i, 1);
     Instruction {
-        code: image[from],
-        condition: image[from + 1],
-        a: cells::get16(image, from + 2),
-        b: cells::get16(image, from + 4),
-        zero: cells::get16(image, from + 6),
+        code: bytes[0],
+        condition: bytes[1],
+        a: cells::get16(bytes, 2),
+        b: cells::get16(bytes, 4),
+        zero: cells::get16(bytes, 6),
     }
 }
 
@@ -112,14 +200,14 @@ pub fn constant(image: &[u8], at: Offsets, k: usize) -> Cell
     requires { ⌜ Laid (now image) at × (k < constants (now image)) ⌝ }
     ensures { λ r. ⌜ r ≡ constantAt (now (image .entry)) k ⌝ }
 {
-    cells::get_from(image, at.constants + 8 * k)
+    cells::get_from(records_at(image, at, Section::Constants, k, 1), 0)
 }
 
 pub fn data_cell(image: &[u8], at: Offsets, k: usize) -> Cell
     requires { ⌜ Laid (now image) at × (k < dataCells (now image)) ⌝ }
     ensures { λ r. ⌜ r ≡ dataCellAt (now (image .entry)) k ⌝ }
 {
-    cells::get_from(image, at.cells + 8 * k)
+    cells::get_from(records_at(image, at, Section::Cells, k, 1), 0)
 }
 
 // "offset below the area's length"

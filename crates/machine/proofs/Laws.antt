@@ -13,11 +13,14 @@ use Rattle.scope.specs.declared.DataOffset.{DataOffset}
 use Rattle.scope.specs.declared.ProgramOffset.{ProgramOffset}
 use Rattle.scope.specs.declared.Registers.{Registers}
 use Rattle.scope.specs.Cells.{cell, cellAt, free}
-use Rattle.scope.specs.Image.{areas, areaField, areaLength, dataCells, constantAt, programField, formals, temps, controlLimit}
+use Rattle.scope.specs.Image.{word, areas, areaField, areaLength, dataCells, constantAt, programField, formals, temps, controlLimit}
 use Rattle.cells.specs.Rows.{cells, cellsFrom}
 use Rattle.cells.proofs.Laws.{length-cells, getD-cells}
 use Rattle.image.specs.declared.Offsets.{Offsets}
 use Rattle.image.specs.Laid.{Laid}
+use Rattle.image.specs.declared.Section.the-variants.{Constants}
+use Rattle.image.specs.View.{AreRecords}
+use Rattle.image.proofs.Records.{cells-read}
 use Rattle.stacks.specs.Stack.{room, stk, Held, Became, Words, Stored, Carried}
 use Rattle.stacks.proofs.Laws.{length-stk, full-held, push-words, cut-words, words-after}
 use Rattle.ops.specs.declared.Made.{Made}
@@ -544,18 +547,19 @@ enters b at limit p given fresh r t c v g f l m =
       small = omega (arith, v .small);
     }
 
-pub did-enter : (b : List ℕ) (at : Offsets) (p given fresh first : ℕ) (r q : Registers) (t c t′ c1 c2 c3 : List ℕ) → Laid b at → first ≡ programField b p 4
+pub did-enter : (b : List ℕ) (at : Offsets) (p given fresh first : ℕ) (r q : Registers) (t c t′ c1 c2 c3 s : List ℕ) → Laid b at → first ≡ programField b p 4
     → fresh ≡ temps b p → q ≡ enteredOf r p given fresh → Opened r c c1
-    → Carried t t′ c1 c2 (r .temporary) (r .control + 2) given
-    → Words c2 c3 (r .control + 2 + given + fresh) (cells (r .control + 2 + given) c2 ++ cellsFrom b (at .constants + 8 * first) fresh)
+    → Carried t t′ c1 c2 (r .temporary) (r .control + 2) given → AreRecords b at Constants first fresh s
+    → Words c2 c3 (r .control + 2 + given + fresh) (cells (r .control + 2 + given) c2 ++ cellsFrom s 0 fresh)
     → Entered b p given fresh r t c q t′ c3
 unfolding tempCells
-did-enter b at p given fresh first r q t c t′ c1 c2 c3 l p4 pf e o k w =
+did-enter b at p given fresh first r q t c t′ c1 c2 c3 s l p4 pf e o k u w =
     let n : r .control + 2 + given + fresh ≡ r .control + (2 + (given + fresh)) = omega arith in
     let x : List Cell = reverse (take given (stk t (r .temporary))) in
     let a = words-after c c1 c2 (r .control + 2) (r .control + 2 + given) (cells (r .control) c ++ frameHead r []) x (o .words) (k .target) in
-    let z = words-after c c2 c3 (r .control + 2 + given) (r .control + 2 + given + fresh) ((cells (r .control) c ++ frameHead r []) ++ x) (cellsFrom b (at .constants + 8 * first) fresh) a w in
-    let y : cellsFrom b (at .constants + 8 * first) fresh ≡ tempCells b p = rw (pf, p4, l .constants-at) in
+    let z = words-after c c2 c3 (r .control + 2 + given) (r .control + 2 + given + fresh) ((cells (r .control) c ++ frameHead r []) ++ x) (cellsFrom s 0 fresh) a w in
+    let y : cellsFrom s 0 fresh ≡ tempCells b p =
+    cells-read b at l first fresh s Constants (word b 9 + 8 * first) refl u (omega (arith, l .constants-at)) ∙ rw (pf, p4) in
     record {
       registers = e;
       temporary = k .source;

@@ -16,6 +16,7 @@ ghost use Rattle.machine.specs.Did.{placedOf, stoppedOf, erredOf, return
 ghost use Rattle.machine.specs.Did.{DidRegisters, PutData, PutLocal, Left, Opened, Entered};
 ghost use Rattle.machine.specs.Asks.{Poised, Points, Pointing, Enters, Callable};
 use image::Offsets;
+use image::Section;
 use ops::Chosen;
 use ops::Made;
 use ops::Tested;
@@ -566,13 +567,8 @@ fn enter(
     let first = image::program_field(image, at, p as usize, 4) as usize;
     open_frame(r, control);
     stacks::carry(temporary, n, control, above, formals);
-    stacks::append_from(
-        image,
-        at.constants + 8 * first,
-        fresh as usize,
-        control,
-        above + formals,
-    );
+    let constants = image::records_at(image, at, Section::Constants, first, fresh as usize);
+    stacks::append_from(constants, 0, fresh as usize, control, above + formals);
     entered(r, p, given, fresh)
 }
 

@@ -17,11 +17,14 @@ use Rattle.scope.specs.Checks.{sum, boundsOf, WellFormed}
 use Rattle.scope.proofs.Bools.{and-both, or-either}
 use Rattle.image.specs.declared.Counts.{Counts}
 use Rattle.image.specs.declared.Offsets.{Offsets}
+use Rattle.image.specs.declared.Section.the-variants.{Constants}
 use Rattle.image.specs.Laid.{Accepted}
+use Rattle.image.specs.View.{AreRecords}
+use Rattle.image.proofs.Records.{cell-read}
 use Rattle.scope.proofs.Formed.{first-instruction, operands}
 use Rattle.reach.specs.Marks.{global, Points, Uses, InText, InStacks, Marking, Ready, Added, Union}
 use Rattle.reach.specs.Marks.{Stacks}
-use Rattle.reach.proofs.Laws.{both, ready-on}
+use Rattle.reach.proofs.Laws.{both, added-as, ready-on}
 
 -- ---- cells
 
@@ -127,17 +130,30 @@ module _ (b : List ℕ) (at : Offsets) (n : Counts) (k : Accepted b at n) (m : L
             );
       }
 
-  pub text-constants : (m₁ : List ℕ) → Marking b m → Added (Uses b (n .instructions)) m m₁ → Ready (Points b (at .constants) (n .constants)) m₁
-  text-constants m₁ g u =
-      objects-ready b b (at .constants) (n .constants) m₁ (record { long = u .long ∙ g .long; bits = u .bits })
-      (λ j l. rw (k .laid .constants-at) (k .formed .every-constant j (omega (arith, k .counted .constants-are))))
+  -- the constants, handed over as the bytes s
+  module _ (s : List ℕ) (are : AreRecords b at Constants 0 (n .constants) s) where
+    constant-is : (j : ℕ) → j < n .constants → cellFrom s (0 + 8 * j) ≡ cellFrom b (word b 9 + 8 * j)
+    constant-is = cell-read b at (k .laid) 0 (n .constants) s Constants (word b 9) refl are (omega (arith, k .laid .constants-at))
 
-  pub text-added : (m₁ m₂ : List ℕ) (x : ℕ) → Added (Uses b (n .instructions)) m m₁ → Union (Points b (at .constants) (n .constants)) m₁ m₂ x
-      → Added (InText b) m m₂
-  text-added m₁ m₂ x u v =
-      let p : Added (Uses b (instructions b)) m m₁ = rw (k .counted .instructions-are) at u in
-      let q : Added (Points b (word b 9) (constants b)) m₁ m₂ = rw (k .laid .constants-at, k .counted .constants-are) at (v .added) in
-      both p q
+    pub text-constants : (m₁ : List ℕ) → Marking b m → Added (Uses b (n .instructions)) m m₁ → Ready (Points s 0 (n .constants)) m₁
+    text-constants m₁ g u =
+        objects-ready b s 0 (n .constants) m₁ (record { long = u .long ∙ g .long; bits = u .bits })
+        (λ j l. rw (constant-is j l) (k .formed .every-constant j (omega (arith, k .counted .constants-are))))
+
+    pub text-added : (m₁ m₂ : List ℕ) (x : ℕ) → Added (Uses b (n .instructions)) m m₁ → Union (Points s 0 (n .constants)) m₁ m₂ x
+        → Added (InText b) m m₂
+    text-added m₁ m₂ x u v =
+        let p : Added (Uses b (instructions b)) m m₁ = rw (k .counted .instructions-are) at u in
+        let q : Added (Points b (word b 9) (constants b)) m₁ m₂ =
+        added-as (Points b (word b 9) (constants b))
+        (λ a p.
+        let l : p .place < constants b = omega (arith, p .high, k .counted .constants-are) in
+        record { place = p .place; high = l; here = rw (constant-is (p .place) (p .high)) at (p .here) })
+        (λ a p.
+        let l : p .place < n .constants = omega (arith, p .high, k .counted .constants-are) in
+        record { place = p .place; high = l; here = rw (constant-is (p .place) l) (p .here) })
+        (v .added) in
+        both p q
 
 -- ---- the stacks
 

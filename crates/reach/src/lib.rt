@@ -13,6 +13,7 @@ ghost use Rattle.reach.specs.Marks.{Marking, Ready, Cleared, Added, Unio
 ghost use Rattle.reach.specs.Marks.{Names, Used};
 use image::Counts;
 use image::Offsets;
+use image::Section;
 use scope::Cell;
 use scope::Instruction;
 use scope::Registers;
@@ -98,7 +99,8 @@ fn mark_text(image: &[u8], at: Offsets, n: Counts, marks: &mut [u8])
     ensures { λ _. ⌜ Added (InText (now (image .entry))) (now (marks .entry)) (now (marks .exit)) ⌝ }
 {
     mark_operands(image, at, n, marks);
-    mark_cells(image, at.constants, n.constants, marks);
+    let constants = image::records_at(image, at, Section::Constants, 0, n.constants);
+    mark_cells(constants, 0, n.constants, marks);
 }
 
 // What the stacks name, with this many cells and words in use.

@@ -24,6 +24,9 @@ use Rattle.stacks.proofs.Laws.{cut-words, push-words, words-after, held-buffer}
 use Rattle.image.specs.declared.Offsets.{Offsets}
 use Rattle.image.specs.declared.Counts.{Counts}
 use Rattle.image.specs.Laid.{Laid, Accepted}
+use Rattle.image.specs.declared.Section.the-variants.{Constants, Cells}
+use Rattle.image.specs.View.{AreRecords}
+use Rattle.image.proofs.Records.{cells-read}
 use Rattle.states.specs.Loaded.{Cleared, AreasLoaded, BottomLoaded}
 use Rattle.scope.proofs.Formed.{some-program, area-first, area-in, temps-in}
 use Rattle.scope.proofs.Objects.{cell-object}
@@ -96,37 +99,40 @@ cleared b e n y l p =
     }
 
 module _ (b : List ℕ) (at : Offsets) (n : Counts) (a : Accepted b at n) where
-  pub areas-loaded : (d e x : List ℕ) → Octets b → Octets x → length d ≡ 8 * dataCells b → Cleared d e
-      → Words e x (0 + n .cells) (cells 0 e ++ cellsFrom b (at .cells) (n .cells)) → AreasLoaded b d x
-  areas-loaded d e x y yx l p q =
+  pub areas-loaded : (d e x s : List ℕ) → Octets b → Octets x → length d ≡ 8 * dataCells b → Cleared d e → AreRecords b at Cells 0 (n .cells) s
+      → Words e x (0 + n .cells) (cells 0 e ++ cellsFrom s 0 (n .cells)) → AreasLoaded b d x
+  areas-loaded d e x s y yx l p r q =
+      let c : cellsFrom s 0 (n .cells) ≡ cellsFrom b (word b 10) (n .cells) =
+      cells-read b at (a .laid) 0 (n .cells) s Cells (word b 10) refl r (omega (arith, a .laid .cells-at)) in
       let k : n .cells ≡ dataCells b = a .counted .cells-are in
       let z : 0 + n .cells ≡ dataCells b = omega arith in
-      let s : length x ≡ length d = q .same ∙ p .words .same in
+      let f : length x ≡ length d = q .same ∙ p .words .same in
       let w : cells (dataCells b) x ≡ dataWords (initial b .areas) =
-      rw (z, k, a .laid .cells-at, cells-none e) at (q .now) ∙ sym (initial-areas b (a .formed) (bytes b y)) in
+      rw (c, z, k, cells-none e) at (q .now) ∙ sym (initial-areas b (a .formed) (bytes b y)) in
       record {
-        filled = sym (ap inBytes (sym w) ∙ inBytes-cells (dataCells b) x (bytes x yx) (s ∙ l));
-        same = s;
+        filled = sym (ap inBytes (sym w) ∙ inBytes-cells (dataCells b) x (bytes x yx) (f ∙ l));
+        same = f;
       }
 
 module _ (b : List ℕ) (at : Offsets) (laid : Laid b at) (formed : WellFormed b) (first t : ℕ) (ef : first ≡ programField b 0 4) (et : t ≡ programField b 0 3) where
-  pub initial-in : at .constants + 8 * first + 8 * t ≤ length b
-  initial-in = omega (arith, temps-in b formed 0 (some-program b formed), laid .constants-in)
+  pub initial-in : first + t ≤ constants b
+  initial-in = omega (arith, temps-in b formed 0 (some-program b formed))
 
   module _ (x e : List ℕ) (l : length x ≡ 8 * controlLimit b) (p : Words x e 2 (cell 6 0 0 ∷ cell 1 0 0 ∷ [])) where
     pub temps-room : 2 + temps b 0 ≤ controlLimit b → 2 + t ≤ room e
     temps-room h = omega (arith, p .same)
 
-    pub bottom-loaded : (z : List ℕ) → Octets b → Octets z → Words e z (2 + t) (cells 2 e ++ cellsFrom b (at .constants + 8 * first) t)
-        → BottomLoaded b x z (2 + t)
-    bottom-loaded z y yz q =
-        let s : length z ≡ length x = q .same ∙ p .same in
-        let r : Words x z (2 + t) ((cell 6 0 0 ∷ cell 1 0 0 ∷ []) ++ cellsFrom b (at .constants + 8 * first) t) = words-after x e z 2 (2 + t) _ _ p q in
-        let i : cells (2 + t) z ≡ controlWords (initial b .ctrl) =
-        r .now ∙ rw (ef, et, laid .constants-at) (sym (initial-control b formed (bytes b y))) in
+    pub bottom-loaded : (z s : List ℕ) → Octets b → Octets z → AreRecords b at Constants first t s
+        → Words e z (2 + t) (cells 2 e ++ cellsFrom s 0 t) → BottomLoaded b x z (2 + t)
+    bottom-loaded z s y yz u q =
+        let c : cellsFrom s 0 t ≡ cellsFrom b (word b 9 + 8 * first) t =
+        cells-read b at laid first t s Constants (word b 9 + 8 * first) refl u (omega (arith, laid .constants-at)) in
+        let f : length z ≡ length x = q .same ∙ p .same in
+        let r : Words x z (2 + t) ((cell 6 0 0 ∷ cell 1 0 0 ∷ []) ++ cellsFrom s 0 t) = words-after x e z 2 (2 + t) _ _ p q in
+        let i : cells (2 + t) z ≡ controlWords (initial b .ctrl) = r .now ∙ rw (c, ef, et) (sym (initial-control b formed (bytes b y))) in
         record {
-          filled = held-buffer z (2 + t) (bytes z yz) (omega (arith, s, l)) (r .held) ∙ ap (λ (c : List Cell). buffer (length z) c) i;
-          same = s;
+          filled = held-buffer z (2 + t) (bytes z yz) (omega (arith, f, l)) (r .held) ∙ ap (λ (w : List Cell). buffer (length z) w) i;
+          same = f;
           size = ap (λ (k : ℕ). 2 + k) et;
         }
 
@@ -154,4 +160,4 @@ holds-initial b d t c d′ t′ c′ words p q r =
       control = r .filled;
     }
 
-pub ruleset loading = (cleared, areas-loaded, initial-in, temps-room, bottom-loaded, linked, lengths-kept, holds-initial, arith)
+pub ruleset loading = (cleared, areas-loaded, initial-in, temps-room, linked, lengths-kept, holds-initial, arith)

@@ -19,6 +19,7 @@ ghost use Rattle.states.specs.Parts.{Decides, AllObjects, AllFree, Stack
 ghost use Rattle.states.specs.Loaded.{Cleared, AreasLoaded, BottomLoaded};
 use image::Counts;
 use image::Offsets;
+use image::Section;
 use scope::Cell;
 use scope::Checked;
 use scope::ProgramOffset;
@@ -438,7 +439,8 @@ fn load_areas(image: &[u8], at: Offsets, n: Counts, areas: &mut [u8])
     ensures { λ _. ⌜ AreasLoaded (now (image .entry)) (now (areas .entry)) (now (areas .exit)) ⌝ }
 {
     clear(areas);
-    stacks::append_from(image, at.cells, n.cells, areas, 0)
+    let data = image::records_at(image, at, Section::Cells, 0, n.cells);
+    stacks::append_from(data, 0, n.cells, areas, 0)
 }
 
 // The return PC and the caller's base of the bottom frame.
@@ -478,7 +480,8 @@ fn load_bottom(image: &[u8], at: Offsets, control: &mut [u8]) -> u32
     let first = image::program_field(image, at, 0, 4) as usize;
     let temps = image::program_field(image, at, 0, 3);
     load_links(control);
-    stacks::append_from(image, at.constants + 8 * first, temps as usize, control, 2);
+    let constants = image::records_at(image, at, Section::Constants, first, temps as usize);
+    stacks::append_from(constants, 0, temps as usize, control, 2);
     2 + temps as u32
 }
 

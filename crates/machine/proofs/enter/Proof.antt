@@ -25,14 +25,11 @@ open-frame-requires c κs = search needs
 carry-requires : tie.Need-carry-requires
 carry-requires c κs = search needs
 
-mul-append-from : tie.Need-mul-append-from
-mul-append-from c = search needs
+records-at-requires : tie.Need-records-at-requires
+records-at-requires c κs = search needs
 
 add-append-from : tie.Need-add-append-from
 add-append-from c = search needs
-
-add-append-from-2 : tie.Need-add-append-from-2
-add-append-from-2 c = search needs
 
 append-from-requires : tie.Need-append-from-requires
 append-from-requires c κs = search needs
@@ -49,8 +46,9 @@ same-length-2 c = search needs
 returns : tie.Need-returns
 returns c =
     let s = c .before .before .before .before .before .before .before .before .before .before .before .before .before .before .before .before .before .before .before .before .before .before .before .pre in
-    did-enter _ _ _ _ _ _ _ _ _ _ _ _ _ _ (s .laid) (c .before .before .before .before .before .before .before .before .before .before .before .before .before .before .before .before .before .program-field .ensures) (s .fresh-are) (c .entered .ensures)
-    (c .before .before .before .before .before .before .before .before .before .before .before .before .before .before .before .open-frame .ensures) (c .before .before .before .before .before .before .before .before .before .before .carry .ensures) (c .before .before .before .append-from .ensures)
+    did-enter _ _ _ _ _ _ _ _ _ _ _ _ _ _ _ (s .laid) (c .before .before .before .before .before .before .before .before .before .before .before .before .before .before .before .before .before .program-field .ensures) (s .fresh-are) (c .entered .ensures)
+    (c .before .before .before .before .before .before .before .before .before .before .before .before .before .before .before .open-frame .ensures) (c .before .before .before .before .before .before .before .before .before .before .carry .ensures) (c .before .before .before .before .before .records-at .ensures)
+    (c .before .before .before .append-from .ensures)
 
 pub enter-spec : {M : Type 1} → statement M
 enter-spec =
@@ -63,9 +61,8 @@ enter-spec =
     cast-first
     open-frame-requires
     carry-requires
-    mul-append-from
+    records-at-requires
     add-append-from
-    add-append-from-2
     append-from-requires
     entered-requires
     same-length

@@ -7,6 +7,9 @@ use Rattle.states.proofs.load_areas.Tie as tie
 clear-requires : tie.Need-clear-requires
 clear-requires c κs = search needs
 
+records-at-requires : tie.Need-records-at-requires
+records-at-requires c κs = search needs
+
 append-from-requires : tie.Need-append-from-requires
 append-from-requires c κs = search needs
 
@@ -14,7 +17,7 @@ same-length : tie.Need-same-length
 same-length c = search needs
 
 returns : tie.Need-returns
-returns c = search (loading, c .slice-known3 .given, c .before .before .before .before .before .before .before .before .before .shared-slice-known .given)
+returns c = search (loading, c .slice-known3 .given, c .before .before .before .before .before .before .before .before .before .before .shared-slice-known .given)
 
 pub load-areas-spec : {M : Type 1} → statement M
-load-areas-spec = tie.close (tie.spec clear-requires append-from-requires same-length returns)
+load-areas-spec = tie.close (tie.spec clear-requires records-at-requires append-from-requires same-length returns)

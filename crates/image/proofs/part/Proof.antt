@@ -1,0 +1,24 @@
+use native.Mathlib.Nat.{add-sub-cancel-left}
+use borrow.Author.Needs.{needs}
+use Rattle.image.proofs.part.Statement.{statement}
+use Rattle.image.proofs.part.Tie as tie
+use Rattle.image.proofs.part.Reads as reads
+use Rattle.image.proofs.part.Lts as lts
+
+add-end : tie.Need-add-end
+add-end c = search needs
+
+sub-result : tie.Need-sub-result
+sub-result c = search needs
+
+part-result-start : tie.Need-part-result-start
+part-result-start c = search needs
+
+part-result-end : tie.Need-part-result-end
+part-result-end c = search needs
+
+returns : tie.Need-returns
+returns c = simp add-sub-cancel-left
+
+pub part-spec : {M : Type 1} → statement M
+part-spec = tie.close (tie.spec add-end sub-result part-result-start part-result-end returns)

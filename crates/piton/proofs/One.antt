@@ -38,14 +38,17 @@ held-one s r q d₁ t₁ c₁ d₂ t₂ c₂ h k m n = (
   },
 )
 
--- both are as before
-unchanged : (d t c d₁ t₁ c₁ d₂ t₂ c₂ : List ℕ) → Same d t c d₁ t₁ c₁ → Same d t c d₂ t₂ c₂ → Same d₁ t₁ c₁ d₂ t₂ c₂
-unchanged d t c d₁ t₁ c₁ d₂ t₂ c₂ x y =
-    record {
-      areas = y .areas ∙ sym (x .areas);
-      temporary = y .temporary ∙ sym (x .temporary);
-      control = y .control ∙ sym (x .control);
-    }
+-- both refusals said v, and left all as it was
+unchanged : {X : Type 0} (v o p : X) (d t c d₁ t₁ c₁ d₂ t₂ c₂ : List ℕ) → (o ≡ v) × Same d t c d₁ t₁ c₁ → (p ≡ v) × Same d t c d₂ t₂ c₂
+    → (o ≡ p) × Same d₁ t₁ c₁ d₂ t₂ c₂
+unchanged v o p d t c d₁ t₁ c₁ d₂ t₂ c₂ x y = (
+  x .0 ∙ sym (y .0),
+  record {
+    areas = y .1 .areas ∙ sym (x .1 .areas);
+    temporary = y .1 .temporary ∙ sym (x .1 .temporary);
+    control = y .1 .control ∙ sym (x .1 .control);
+  },
+)
 
 -- ---- load
 
@@ -68,10 +71,7 @@ module _ (b d t c : List ℕ) (o p : Loaded) (d₁ t₁ c₁ d₂ t₂ c₂ : Li
           let y = g .done e in
           held-one _ (o .registers) (p .registers) d₁ t₁ c₁ d₂ t₂ c₂ (x .1) (y .1) (y .0 .temporary ∙ sym (x .0 .temporary))
           (y .0 .control ∙ sym (x .0 .control))
-      by (Refused n q) e =
-          let x = f .refused n q e in
-          let y = g .refused n q e in
-          (x .0 ∙ sym (y .0), unchanged d t c d₁ t₁ c₁ d₂ t₂ c₂ (x .1) (y .1))
+      by (Refused n q) e = unchanged _ (o .registers) (p .registers) d t c d₁ t₁ c₁ d₂ t₂ c₂ (f .refused n q e) (g .refused n q e)
 
 -- ---- what is said of a state
 
@@ -128,10 +128,7 @@ module _ (b : List ℕ) (r : Registers) (d t c : List ℕ) (yb : Bytes b) (yd : 
         same = says-one _ b r d t c (f .said) (g .said) (f .says) (g .says)
 
         by : (v : Checked) → f .said ≡ v → (o ≡ p) × Same d₁ t₁ c₁ d₂ t₂ c₂
-        by (Refused n q) e =
-            let x = f .refused n q e in
-            let y = g .refused n q (sym same ∙ e) in
-            (x .0 ∙ sym (y .0), unchanged d t c d₁ t₁ c₁ d₂ t₂ c₂ (x .1) (y .1))
+        by (Refused n q) e = unchanged _ o p d t c d₁ t₁ c₁ d₂ t₂ c₂ (f .refused n q e) (g .refused n q (sym same ∙ e))
         by Fine e =
             let w = said-well _ b r d t c (f .said) (f .says) e in
             let k = kept-to-run (w .0) (w .1) in
@@ -158,10 +155,7 @@ module _ (b : List ℕ) (r : Registers) (d t c : List ℕ) (yb : Bytes b) (yd : 
         same = says-one _ b r d t c (f .said) (g .said) (f .says) (g .says)
 
         by : (v : Checked) → f .said ≡ v → (o ≡ p) × Same d₁ t₁ c₁ d₂ t₂ c₂
-        by (Refused n q) e =
-            let x = f .refused n q e in
-            let y = g .refused n q (sym same ∙ e) in
-            (x .0 ∙ sym (y .0), unchanged d t c d₁ t₁ c₁ d₂ t₂ c₂ (x .1) (y .1))
+        by (Refused n q) e = unchanged _ o p d t c d₁ t₁ c₁ d₂ t₂ c₂ (f .refused n q e) (g .refused n q (sym same ∙ e))
         by Fine e =
             let w = said-well _ b r d t c (f .said) (f .says) e in
             let k = kept-to-run (w .0) (w .1) in

@@ -31,10 +31,16 @@ use Rattle.cells.specs.Rows.{Sized}
 use Rattle.states.proofs.Lengths.{still-sized}
 use Rattle.link.proofs.Theorems.{cells-seen}
 use Rattle.packed.specs.Packed.{Packed}
-use Rattle.calls.specs.Answers.{refusedRun}
+use Rattle.calls.specs.Answers.{refusedLoad, refusedRun}
 use Rattle.piton.proofs.Loaded.{loaded-well}
 use Rattle.piton_run.specs.declared.Lengths.{Lengths}
 use Rattle.piton_run.specs.Whole.{BytesFor, Asked, Fitting, RanWhole, refused, ran}
+
+-- ---- too long
+
+pub refused-long : (none : Loaded) (r : Ran) → none ≡ refusedLoad 11 0 → r ≡ refusedRun 11 0 (none .registers) → r ≡ refusedRun 11 0 noRegisters
+unfolding refusedLoad
+refused-long none r e h = h ∙ ap (λ (l : Loaded). refusedRun 11 0 (l .registers)) e
 
 -- ---- the lengths that are asked for
 

@@ -8,9 +8,7 @@ ghost use Rattle.cells.specs.Rows.{cells};
 ghost use Rattle.lines.specs.Written.{Wrote};
 ghost use Rattle.calls.specs.Answers.{refusedRun};
 ghost use Rattle.piton_run.specs.Whole.{BytesFor, Asked, Fitting, RanWhole, Tells, firstLine, cellLine, linesOf, told};
-use scope::ProgramOffset;
 use scope::Ran;
-use scope::Registers;
 
 const BUDGET: u32 = 1000000;
 
@@ -168,20 +166,8 @@ fn tell_image(
 fn too_long() -> Ran
     ensures { λ r. ⌜ r ≡ refusedRun 11 0 noRegisters ⌝ }
 {
-    Ran {
-        answer: 11,
-        place: 0,
-        steps: 0,
-        registers: Registers {
-            program: 0,
-            offset: ProgramOffset(0),
-            base: 0,
-            control: 0,
-            temporary: 0,
-            status: 3,
-            error: 0,
-        },
-    }
+    let none = calls::refused_load(11, 0);
+    calls::refused_run(11, 0, none.registers)
 }
 
 // Puts what is printed after this input at the start of out, and returns its length.

@@ -1,11 +1,20 @@
-use mathlib.Core.Path.{refl}
-use Rattle.calls.specs.Answers.{refusedRun}
+use borrow.Author.Needs.{needs}
+use Rattle.piton_run.proofs.Running.{refused-long}
 use Rattle.piton_run.proofs.too_long.Statement.{statement}
 use Rattle.piton_run.proofs.too_long.Tie as tie
+use Rattle.piton_run.proofs.too_long.Reads as reads
+use Rattle.piton_run.proofs.too_long.Lts as lts
+use Rattle.calls.proofs.refused_load.Reads as refused-load-reads
+use Rattle.calls.proofs.refused_run.Reads as refused-run-reads
+
+refused-load-requires : tie.Need-refused-load-requires
+refused-load-requires c κs = search needs
+
+refused-run-requires : tie.Need-refused-run-requires
+refused-run-requires c κs = search needs
 
 returns : tie.Need-returns
-unfolding refusedRun
-returns c = refl
+returns c = search (refused-long, needs)
 
 pub too-long-spec : {M : Type 1} → statement M
-too-long-spec = tie.close (tie.spec returns)
+too-long-spec = tie.close (tie.spec refused-load-requires refused-run-requires returns)

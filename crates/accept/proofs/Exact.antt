@@ -39,11 +39,11 @@ holds-fine [] h = refl
 holds-fine (t ∷ ts) h = rw (h t (List·Memᴰ·head refl)) (holds-fine ts (λ u m. h u (List·Memᴰ·tail m)))
 
 -- a test with this number and place does not hold, and every test before it does
-pub record First (ts : List Test) (n p : ℕ) : Type 0 where
-  pub before : List Test
-  pub after : List Test
-  pub split : ts ≡ before ++ (test n p false ∷ after)
-  pub held : AllHold before
+record First (ts : List Test) (n p : ℕ) : Type 0 where
+  before : List Test
+  after : List Test
+  split : ts ≡ before ++ (test n p false ∷ after)
+  held : AllHold before
 
 refused-head : (h : Bool) (m q : ℕ) (ts : List Test) (n p : ℕ) → (firstFailing ts ≡ Refused n p → First ts n p)
     → firstFailing (test m q h ∷ ts) ≡ Refused n p → First (test m q h ∷ ts) n p
@@ -61,7 +61,7 @@ refused-head false m q ts n p k e =
     let c : q ≡ p = cc in
     record { before = []; after = ts; split = rw (a, c); held = λ t w. absurd (List·Memᴰ·not-nil w) }
 
-pub refused-first : (ts : List Test) (n p : ℕ) → firstFailing ts ≡ Refused n p → First ts n p
+refused-first : (ts : List Test) (n p : ℕ) → firstFailing ts ≡ Refused n p → First ts n p
 unfolding firstFailing
 refused-first [] n p e = let z : _≡_ {A = ℕ} 0 1 = cc in absurd (omega arith)
 refused-first (t ∷ ts) n p e = refused-head (t .holds) (t .number) (t .place) ts n p (refused-first ts n p) e
@@ -69,9 +69,11 @@ refused-first (t ∷ ts) n p e = refused-head (t .holds) (t .number) (t .place) 
 -- ---- an image
 
 -- the answer is the first check that does not hold
-pub first-that-fails : (b : List ℕ) (n p : ℕ) → imageSays b ≡ Refused n p → First (imageTests b) n p
+pub first-that-fails : (b : List ℕ) (n p : ℕ) → imageSays b ≡ Refused n p
+    → (before : List Test) × (after : List Test) × (imageTests b ≡ before ++ (test n p false ∷ after))
+    × ((t : Test) → List·Memᴰ t before → t .holds ≡ true)
 unfolding imageSays
-first-that-fails b n p e = refused-first (imageTests b) n p e
+first-that-fails b n p e = let f = refused-first (imageTests b) n p e in (f .before, f .after, f .split, f .held)
 
 -- a test for each number below n, and one more
 table-fine : (f : ℕ → Test) (n : ℕ) (h : Bool) (m q : ℕ) → firstFailing (tab f n ++ (test m q h ∷ [])) ≡ Fine

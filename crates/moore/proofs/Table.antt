@@ -30,18 +30,11 @@ state t =
     }
 
 -- a single step of the instruction: the psw and the temporary stack after it
-pub record After : Type 0 where
-  pub psw : Psw
-  pub temp : List Obj
-
-abbrev after : Psw → List Obj → After
-after w t = record { psw = w; temp = t }
-
-abbrev single : Ins → List Obj → After
-single i t = after (p-step (text i) (state t) .psw) (p-step (text i) (state t) .temp)
+abbrev single : Ins → List Obj → Psw × List Obj
+single i t = let s : State = p-step (text i) (state t) in (s .psw, s .temp)
 
 -- the top of a stack stands first
-pub table : _≡_ {A = List After}
+pub table : _≡_ {A = List (Psw × List Obj)}
     (single add-nat (nat 0 ∷ nat 4294967295 ∷ [])
     ∷ single add-nat (nat 1 ∷ nat 4294967295 ∷ [])
     ∷ single sub-nat (nat 4 ∷ nat 3 ∷ [])
@@ -57,20 +50,20 @@ pub table : _≡_ {A = List After}
     ∷ single (jump-case (0 ∷ 0 ∷ [])) (nat 2 ∷ [])
     ∷ single ret []
     ∷ [])
-    (after run (nat 4294967295 ∷ [])
-    ∷ after (error 29) (nat 1 ∷ nat 4294967295 ∷ [])
-    ∷ after (error 31) (nat 4 ∷ nat 3 ∷ [])
-    ∷ after (error 32) (nat 0 ∷ [])
-    ∷ after (error 26) (int (negsuc 2147483647) ∷ [])
-    ∷ after run (int (pos 2147483647) ∷ [])
-    ∷ after run (addr 0 2 ∷ [])
-    ∷ after (error 19) (nat 2 ∷ addr 0 1 ∷ [])
-    ∷ after run (addr 0 0 ∷ [])
-    ∷ after (error 20) (nat 2 ∷ addr 0 1 ∷ [])
-    ∷ after (error 18) (int (pos 1) ∷ nat 1 ∷ [])
-    ∷ after (error 28) (int (negsuc 0) ∷ [])
-    ∷ after (error 13) (nat 2 ∷ [])
-    ∷ after halt []
+    ((run, nat 4294967295 ∷ [])
+    ∷ (error 29, nat 1 ∷ nat 4294967295 ∷ [])
+    ∷ (error 31, nat 4 ∷ nat 3 ∷ [])
+    ∷ (error 32, nat 0 ∷ [])
+    ∷ (error 26, int (negsuc 2147483647) ∷ [])
+    ∷ (run, int (pos 2147483647) ∷ [])
+    ∷ (run, addr 0 2 ∷ [])
+    ∷ (error 19, nat 2 ∷ addr 0 1 ∷ [])
+    ∷ (run, addr 0 0 ∷ [])
+    ∷ (error 20, nat 2 ∷ addr 0 1 ∷ [])
+    ∷ (error 18, int (pos 1) ∷ nat 1 ∷ [])
+    ∷ (error 28, int (negsuc 0) ∷ [])
+    ∷ (error 13, nat 2 ∷ [])
+    ∷ (halt, [])
     ∷ [])
 unfolding p-objectp p-objectp-type choose need p-return program insAt p-ins-okp p-ins-step p-settle p-step1 p-step-by p-step
 table = refl

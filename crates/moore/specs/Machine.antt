@@ -1,59 +1,26 @@
 -- Moore's machine, from source 003, and from source 000 where 003 lacks a definition; beside each stands the page. Names in capitals are the
 -- sources'. Programs, areas and locals are named by their numbers, labels by their offsets, and lookups are total, as in the sources.
-use mathlib.Core.List.{List, [], _∷_, _++_, reverse}
-use mathlib.Core.Bool.{Bool, true, false, not, _&&_, _||_}
+use mathlib.Core.{List.{List, [], _∷_, _++_, reverse}, Bool.{Bool, true, false, not, _&&_, _||_}}
 use Prim.Native.Nat.{ℕ, zero, suc, _+_, _-_}
-use lib.Dec.{ltb, leb, eqb}
-use lib.IntN.{_+ℤ_, _-ℤ_, negℤ, natAbs}
-use lib.Signed.{ltZ}
-use lib.ListN.{length, getD, set, take, drop}
+use lib.{Dec.{ltb, leb, eqb}, IntN.{_+ℤ_, _-ℤ_, negℤ, natAbs}, Signed.{ltZ}, ListN.{length, getD, set, take, drop}}
 use Rattle.moore.specs.Objects as O
 use Rattle.moore.specs.Objects.{Obj, nat, int, bitv, bool, addr, pc, subr, none, NAT, INT, BOOL, ADDR, type}
 use Rattle.moore.specs.Objects.{natOf, intOf, boolOf, area-name, offset, equal, small-naturalp, small-integerp, negativep}
 use Rattle.moore.specs.Objects.{choose, p-test-natp, p-test-intp, p-test-boolp}
 
--- ---- programs
-
 pub data Ins : Type 0 where
   call : ℕ → Ins
   ret : Ins
   push-constant : Obj → Ins
-  push-local : ℕ → Ins
-  push-global : ℕ → Ins
+  push-local push-global : ℕ → Ins
   pop : Ins
-  pop* : ℕ → Ins
-  pop-local : ℕ → Ins
-  pop-global : ℕ → Ins
-  set-local : ℕ → Ins
-  set-global : ℕ → Ins
-  jump : ℕ → Ins
+  pop* pop-local pop-global set-local set-global jump : ℕ → Ins
   jump-case : List ℕ → Ins
-  test-nat-and-jump : ℕ → ℕ → Ins
-  test-int-and-jump : ℕ → ℕ → Ins
-  test-bool-and-jump : ℕ → ℕ → Ins
-  no-op : Ins
-  eq : Ins
-  add-addr : Ins
-  sub-addr : Ins
-  lt-addr : Ins
-  fetch : Ins
-  deposit : Ins
-  add-int : Ins
-  sub-int : Ins
-  neg-int : Ins
-  lt-int : Ins
-  int-to-nat : Ins
-  add-nat : Ins
-  add1-nat : Ins
-  sub-nat : Ins
-  sub1-nat : Ins
-  lt-nat : Ins
-  or-bool : Ins
-  and-bool : Ins
-  not-bool : Ins
+  test-nat-and-jump test-int-and-jump test-bool-and-jump : ℕ → ℕ → Ins
+  no-op eq add-addr sub-addr lt-addr fetch deposit add-int sub-int neg-int lt-int int-to-nat : Ins
+  add-nat add1-nat sub-nat sub1-nat lt-nat or-bool and-bool not-bool : Ins
 
--- formals by their number, temps by their initial values, the body (003 p. 2, 000 p. 13)
-pub record Program : Type 0 where
+pub record Program : Type 0 where  -- formals by their number, temps by their initial values, the body (003 p. 2, 000 p. 13)
   pub formals : ℕ
   pub temps : List Obj
   pub code : List Ins
@@ -66,26 +33,21 @@ pub record Text : Type 0 where
   pub max-temp : ℕ
   pub word-size : ℕ
 
--- DEFINITION (003 p. 2)
-unfoldable pub program : Text → ℕ → Program
+unfoldable pub program : Text → ℕ → Program  -- DEFINITION (003 p. 2)
 program m p = getD (m .progs) p (record { formals = 0; temps = []; code = [] })
 
 -- ---- p-states
 
--- BINDINGS, formals and then temps, and RET-PC (003 p. 10)
-pub record Frame : Type 0 where
+pub record Frame : Type 0 where  -- BINDINGS, formals and then temps, and RET-PC (003 p. 10)
   pub locals : List Obj
   pub prog : ℕ
   pub off : ℕ
 
--- RUN, HALT, or the error of an instruction, here by its code (003 p. 32)
-pub data Psw : Type 0 where
-  run : Psw
-  halt : Psw
+pub data Psw : Type 0 where  -- RUN, HALT, or the error of an instruction, here by its code (003 p. 32)
+  run halt : Psw
   error : ℕ → Psw
 
--- the parts that steps change (003 p. 1): pc is (prog, off); both stacks have their top first
-pub record State : Type 0 where
+pub record State : Type 0 where  -- the parts that steps change (003 p. 1): pc is (prog, off); both stacks have their top first
   pub prog : ℕ
   pub off : ℕ
   pub ctrl : List Frame
@@ -93,24 +55,21 @@ pub record State : Type 0 where
   pub areas : List (List Obj)
   pub psw : Psw
 
--- TOP, TOP1 (003 pp. 6, 7)
-abbrev pub top : State → Obj
+abbrev pub top : State → Obj  -- TOP (003 p. 6)
 top s = getD (s .temp) 0 none
 
-abbrev pub top1 : State → Obj
+abbrev pub top1 : State → Obj  -- TOP1 (003 p. 7)
 top1 s = getD (s .temp) 1 none
 
--- P-CTRL-STK-SIZE (003 p. 10)
-abbrev pub ctrl-size : List Frame → ℕ
+abbrev pub ctrl-size : List Frame → ℕ  -- P-CTRL-STK-SIZE (003 p. 10)
 ctrl-size [] = 0
 ctrl-size (f ∷ fs) = 2 + length (f .locals) + ctrl-size fs
 
--- LOCAL-VAR-VALUE, SET-LOCAL-VAR-VALUE (003 pp. 10, 11)
-abbrev pub local-value : ℕ → List Frame → Obj
+abbrev pub local-value : ℕ → List Frame → Obj  -- LOCAL-VAR-VALUE (003 p. 10)
 local-value i [] = none
 local-value i (f ∷ fs) = getD (f .locals) i none
 
-abbrev pub set-local-value : Obj → ℕ → List Frame → List Frame
+abbrev pub set-local-value : Obj → ℕ → List Frame → List Frame  -- SET-LOCAL-VAR-VALUE (003 p. 11)
 set-local-value x i [] = []
 set-local-value x i (f ∷ fs) = record { locals = set (f .locals) i x; prog = f .prog; off = f .off } ∷ fs
 
@@ -119,18 +78,16 @@ unfoldable pub call-frame : Text → ℕ → State → Frame
 call-frame m p s =
     record { locals = reverse (take (program m p .formals) (s .temp)) ++ program m p .temps; prog = s .prog; off = s .off + 1 }
 
--- VALUE in the data segment (003 p. 3), FETCH-ADP, DEPOSIT-ADP (003 p. 3)
-abbrev pub area : List (List Obj) → ℕ → List Obj
+abbrev pub area : List (List Obj) → ℕ → List Obj  -- VALUE in the data segment (003 p. 3)
 area d a = getD d a []
 
-unfoldable pub fetch-adp : ℕ → ℕ → List (List Obj) → Obj
+unfoldable pub fetch-adp : ℕ → ℕ → List (List Obj) → Obj  -- FETCH-ADP (003 p. 3)
 fetch-adp a o d = getD (area d a) o none
 
-unfoldable pub deposit-adp : Obj → ℕ → ℕ → List (List Obj) → List (List Obj)
+unfoldable pub deposit-adp : Obj → ℕ → ℕ → List (List Obj) → List (List Obj)  -- DEPOSIT-ADP (003 p. 3)
 deposit-adp x a o d = set d a (set (area d a) o x)
 
--- P-OBJECTP (003 p. 9; BITV from 000 p. 121): what is not there has length 0
-unfoldable pub p-objectp : Obj → Text → List (List Obj) → Bool
+unfoldable pub p-objectp : Obj → Text → List (List Obj) → Bool  -- P-OBJECTP (003 p. 9; BITV 000 p. 121): what is not there has length 0
 p-objectp (nat n) m d = small-naturalp n (m .word-size)
 p-objectp (int z) m d = small-integerp z (m .word-size)
 p-objectp (bitv b) m d = eqb (length b) (m .word-size)
@@ -139,8 +96,7 @@ p-objectp (addr a o) m d = ltb o (length (area d a))
 p-objectp (pc p o) m d = ltb o (length (program m p .code))
 p-objectp (subr p) m d = ltb p (length (m .progs))
 
--- P-OBJECTP-TYPE (003 p. 9)
-unfoldable pub p-objectp-type : ℕ → Obj → Text → State → Bool
+unfoldable pub p-objectp-type : ℕ → Obj → Text → State → Bool  -- P-OBJECTP-TYPE (003 p. 9)
 p-objectp-type t x m s = eqb (type x) t && p-objectp x m (s .areas)
 
 -- ---- preconditions
@@ -151,22 +107,19 @@ unfoldable pub need : Bool → ℕ → ℕ → ℕ
 need true k rest = rest
 need false k rest = k
 
--- at least n cells on the temporary stack; room for one more
-abbrev pub has : ℕ → State → Bool
+abbrev pub has : ℕ → State → Bool  -- at least n cells on the temporary stack
 has n s = leb n (length (s .temp))
 
-abbrev pub roomy : Text → State → Bool
+abbrev pub roomy : Text → State → Bool  -- room for one more
 roomy m s = ltb (length (s .temp)) (m .max-temp)
 
--- one operand of type t; top of type t and top1 of type u
-abbrev pub one : ℕ → Text → State → ℕ → ℕ
+abbrev pub one : ℕ → Text → State → ℕ → ℕ  -- top of type t
 one t m s rest = need (has 1 s) 1 (need (p-objectp-type t (top s) m s) 2 rest)
 
-abbrev pub two : ℕ → ℕ → Text → State → ℕ → ℕ
+abbrev pub two : ℕ → ℕ → Text → State → ℕ → ℕ  -- top of type t and top1 of type u
 two t u m s rest = need (has 2 s) 1 (need (p-objectp-type t (top s) m s && p-objectp-type u (top1 s) m s) 2 rest)
 
--- P-INS-OKP (003 p. 32): each line is the P-OPCODE-OKP of its page
-unfoldable pub p-ins-okp : Ins → Text → State → ℕ
+unfoldable pub p-ins-okp : Ins → Text → State → ℕ  -- P-INS-OKP (003 p. 32): each line is the P-OPCODE-OKP of its page
 p-ins-okp (call p) m s = need (leb (program m p .formals) (length (s .temp))) 1 (need (leb (ctrl-size (call-frame m p s ∷ s .ctrl)) (m .max-ctrl)) 5 0)  -- 003 p. 13
 p-ins-okp ret m s = 0  -- 003 p. 13
 p-ins-okp (push-constant c) m s = need (roomy m s) 4 0  -- 003 p. 14
@@ -213,22 +166,18 @@ onward c t d s = record { prog = s .prog; off = s .off + 1; ctrl = c; temp = t; 
 abbrev pub go : List Obj → State → State
 go t s = onward (s .ctrl) t (s .areas) s
 
--- PC of a label in the current program (003 p. 9), with another temporary stack
-abbrev pub goto : ℕ → List Obj → State → State
+abbrev pub goto : ℕ → List Obj → State → State  -- PC of a label in the current program (003 p. 9), with another temporary stack
 goto o t s = record { prog = s .prog; off = o; ctrl = s .ctrl; temp = t; areas = s .areas; psw = run }
 
--- P-HALT (003 p. 1)
-abbrev pub p-halt : State → Psw → State
+abbrev pub p-halt : State → Psw → State  -- P-HALT (003 p. 1)
 p-halt s w = record { prog = s .prog; off = s .off; ctrl = s .ctrl; temp = s .temp; areas = s .areas; psw = w }
 
--- P-RET-STEP (003 p. 13), by the frames there are
-unfoldable pub p-return : List Frame → State → State
+unfoldable pub p-return : List Frame → State → State  -- P-RET-STEP (003 p. 13), by the frames there are
 p-return [] s = p-halt s halt
 p-return (f ∷ []) s = p-halt s halt
 p-return (f ∷ g ∷ fs) s = record { prog = f .prog; off = f .off; ctrl = g ∷ fs; temp = s .temp; areas = s .areas; psw = run }
 
--- P-INS-STEP (003 p. 34): each line is the P-OPCODE-STEP of its page
-unfoldable pub p-ins-step : Ins → Text → State → State
+unfoldable pub p-ins-step : Ins → Text → State → State  -- P-INS-STEP (003 p. 34): each line is the P-OPCODE-STEP of its page
 p-ins-step (call p) m s = record { prog = p; off = 0; ctrl = call-frame m p s ∷ s .ctrl; temp = drop (program m p .formals) (s .temp); areas = s .areas; psw = run }  -- 003 p. 13
 p-ins-step ret m s = p-return (s .ctrl) s  -- 003 p. 13
 p-ins-step (push-constant c) m s = go (c ∷ s .temp) s  -- 003 p. 14
@@ -268,8 +217,7 @@ p-ins-step not-bool m s = go (bool (not (boolOf (top s))) ∷ drop 1 (s .temp)) 
 
 -- ---- the machine
 
--- an instruction's code, by document 01
-abbrev pub codeOf : Ins → ℕ
+abbrev pub codeOf : Ins → ℕ  -- an instruction's code, by document 01
 codeOf (call p) = 1
 codeOf ret = 2
 codeOf (push-constant c) = 3
@@ -307,29 +255,23 @@ codeOf or-bool = 34
 codeOf and-bool = 35
 codeOf not-bool = 36
 
--- P-STEP1 (003 p. 36): where the precondition does not hold, the psw alone changes
-unfoldable pub p-settle : ℕ → Ins → Text → State → State
+unfoldable pub p-settle : ℕ → Ins → Text → State → State  -- P-STEP1 (003 p. 36): where a precondition does not hold, the psw alone changes
 p-settle zero i m s = p-ins-step i m s
 p-settle (suc k) i m s = p-halt s (error (codeOf i))
 
 unfoldable pub p-step1 : Ins → Text → State → State
 p-step1 i m s = p-settle (p-ins-okp i m s) i m s
 
--- P-CURRENT-INSTRUCTION (003 p. 10)
-unfoldable pub insAt : Text → ℕ → ℕ → Ins
+unfoldable pub insAt : Text → ℕ → ℕ → Ins  -- P-CURRENT-INSTRUCTION (003 p. 10)
 insAt m p o = getD (program m p .code) o ret
 
--- P-STEP (003 p. 36): nothing happens unless the psw is RUN
-unfoldable pub p-step-by : Psw → Text → State → State
-p-step-by run m s = p-step1 (insAt m (s .prog) (s .off)) m s
-p-step-by halt m s = s
-p-step-by (error c) m s = s
+unfoldable pub p-step-by : Psw → Text → State → State  -- P-STEP (003 p. 36): nothing happens unless the psw is RUN
+p-step-by w m s = elim w [ run ↦ p-step1 (insAt m (s .prog) (s .off)) m s | halt ↦ s | error c ↦ s ]
 
 unfoldable pub p-step : Text → State → State
 p-step m s = p-step-by (s .psw) m s
 
--- P (003 p. 36): n steps
-unfoldable pub P : Text → State → ℕ → State
+unfoldable pub P : Text → State → ℕ → State  -- P (003 p. 36): n steps
 P m s zero = s
 P m s (suc n) = P m (p-step m s) n
 

@@ -1,19 +1,15 @@
 -- Piton's objects: the seven types (000 page 10; 003 page 4, "Tagged objects") and the functions on them that instructions use.
 -- A program or an area is named by its number. Functions are total, as in the sources: what a precondition rules out has some value.
-use mathlib.Core.List.{List, [], _∷_}
-use mathlib.Core.Bool.{Bool, true, false, not, _&&_, _||_, Bool·beq}
+use mathlib.Core.{List.{List, [], _∷_}, Bool.{Bool, true, false, not, _&&_, _||_, Bool·beq}}
 use Prim.Native.Nat.{ℕ, _+_, _-_, _^_}
-use lib.Dec.{ltb, eqb}
-use lib.IntN.{ℤ, pos, negsuc}
-use lib.Signed.{mag}
+use lib.{Dec.{ltb, eqb}, IntN.{ℤ, pos, negsuc}, Signed.{mag}}
 
 pub data Obj : Type 0 where
   nat : ℕ → Obj
   int : ℤ → Obj
   bitv : List Bool → Obj
   bool : Bool → Obj
-  addr : ℕ → ℕ → Obj
-  pc : ℕ → ℕ → Obj
+  addr pc : ℕ → ℕ → Obj
   subr : ℕ → Obj
 
 -- TYPE (003 p. 4), by the numbers of document 01
@@ -30,73 +26,30 @@ abbrev pub ADDR : ℕ
 ADDR = 5
 
 abbrev pub type : Obj → ℕ
-type (nat n) = NAT
-type (int z) = INT
-type (bitv b) = 3
-type (bool b) = BOOL
-type (addr a o) = ADDR
-type (pc p o) = 6
-type (subr p) = 7
+type x = elim x [ nat n ↦ NAT | int z ↦ INT | bitv b ↦ 3 | bool b ↦ BOOL | addr a o ↦ ADDR | pc p o ↦ 6 | subr p ↦ 7 ]
 
--- what a total function gives where there is no object
-abbrev pub none : Obj
+abbrev pub none : Obj  -- what a total function gives where there is no object
 none = nat 0
 
 -- UNTAG, at each type that an instruction untags
 abbrev pub natOf : Obj → ℕ
-natOf (nat n) = n
-natOf (int z) = 0
-natOf (bitv b) = 0
-natOf (bool b) = 0
-natOf (addr a o) = 0
-natOf (pc p o) = 0
-natOf (subr p) = 0
+natOf x = elim x [ nat n ↦ n | int z ↦ 0 | bitv b ↦ 0 | bool b ↦ 0 | addr a o ↦ 0 | pc p o ↦ 0 | subr p ↦ 0 ]
 
 abbrev pub intOf : Obj → ℤ
-intOf (nat n) = pos 0
-intOf (int z) = z
-intOf (bitv b) = pos 0
-intOf (bool b) = pos 0
-intOf (addr a o) = pos 0
-intOf (pc p o) = pos 0
-intOf (subr p) = pos 0
+intOf x = elim x [ nat n ↦ pos 0 | int z ↦ z | bitv b ↦ pos 0 | bool b ↦ pos 0 | addr a o ↦ pos 0 | pc p o ↦ pos 0 | subr p ↦ pos 0 ]
 
 abbrev pub bitsOf : Obj → List Bool
-bitsOf (nat n) = []
-bitsOf (int z) = []
-bitsOf (bitv b) = b
-bitsOf (bool b) = []
-bitsOf (addr a o) = []
-bitsOf (pc p o) = []
-bitsOf (subr p) = []
+bitsOf x = elim x [ nat n ↦ [] | int z ↦ [] | bitv b ↦ b | bool b ↦ [] | addr a o ↦ [] | pc p o ↦ [] | subr p ↦ [] ]
 
 abbrev pub boolOf : Obj → Bool
-boolOf (nat n) = false
-boolOf (int z) = false
-boolOf (bitv b) = false
-boolOf (bool b) = b
-boolOf (addr a o) = false
-boolOf (pc p o) = false
-boolOf (subr p) = false
+boolOf x = elim x [ nat n ↦ false | int z ↦ false | bitv b ↦ false | bool b ↦ b | addr a o ↦ false | pc p o ↦ false | subr p ↦ false ]
 
 -- AREA-NAME, of an area or a program, and OFFSET
 abbrev pub area-name : Obj → ℕ
-area-name (nat n) = 0
-area-name (int z) = 0
-area-name (bitv b) = 0
-area-name (bool b) = 0
-area-name (addr a o) = a
-area-name (pc p o) = p
-area-name (subr p) = p
+area-name x = elim x [ nat n ↦ 0 | int z ↦ 0 | bitv b ↦ 0 | bool b ↦ 0 | addr a o ↦ a | pc p o ↦ p | subr p ↦ p ]
 
 abbrev pub offset : Obj → ℕ
-offset (nat n) = 0
-offset (int z) = 0
-offset (bitv b) = 0
-offset (bool b) = 0
-offset (addr a o) = o
-offset (pc p o) = o
-offset (subr p) = 0
+offset x = elim x [ nat n ↦ 0 | int z ↦ 0 | bitv b ↦ 0 | bool b ↦ 0 | addr a o ↦ o | pc p o ↦ o | subr p ↦ 0 ]
 
 -- ADD-ADDR, SUB-ADDR: the offset alone moves
 abbrev pub add-addr : Obj → ℕ → Obj
@@ -138,17 +91,15 @@ abbrev pub negativep : ℤ → Bool
 negativep (pos n) = false
 negativep (negsuc n) = true
 
--- P-TEST-NATP, P-TEST-INTP, P-TEST-BOOLP (003 pages 21 to 23): a flag is the condition of document 01
 unfoldable pub choose : {X : Type 0} → Bool → X → X → X
 choose true a b = a
 choose false a b = b
 
--- 0 ZERO, 1 NOT-ZERO
-unfoldable pub p-test-natp : ℕ → ℕ → Bool
+-- P-TEST-NATP, P-TEST-INTP, P-TEST-BOOLP (003 pages 21 to 23): a flag is the condition of document 01
+unfoldable pub p-test-natp : ℕ → ℕ → Bool  -- 0 ZERO, 1 NOT-ZERO
 p-test-natp flg x = choose (eqb flg 0) (eqb x 0) (not (eqb x 0))
 
--- 0 ZERO, 1 NOT-ZERO, 2 NEG, 3 NOT-NEG, 4 POS, 5 NOT-POS
-unfoldable pub p-test-intp : ℕ → ℤ → Bool
+unfoldable pub p-test-intp : ℕ → ℤ → Bool  -- 0 ZERO, 1 NOT-ZERO, 2 NEG, 3 NOT-NEG, 4 POS, 5 NOT-POS
 p-test-intp flg x =
     choose (eqb flg 0) (equalℤ x (pos 0))
     (choose (eqb flg 1) (not (equalℤ x (pos 0)))
@@ -157,6 +108,5 @@ p-test-intp flg x =
     (choose (eqb flg 4) (not (negativep x) && not (equalℤ x (pos 0)))
     (equalℤ x (pos 0) || negativep x)))))
 
--- 0 T, 1 F
-unfoldable pub p-test-boolp : ℕ → Bool → Bool
+unfoldable pub p-test-boolp : ℕ → Bool → Bool  -- 0 T, 1 F
 p-test-boolp flg x = choose (eqb flg 0) x (not x)

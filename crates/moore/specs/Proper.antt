@@ -1,7 +1,5 @@
 -- Proper p-states (000 pp. 140 to 150, PROPER-P-STATEP), with 01's rules for the bottom frame and the error code; z: the areas' lengths.
-use mathlib.Core.Path.{_≡_}
-use mathlib.Core.List.{List, [], _∷_, map}
-use mathlib.Core.Bool.{true}
+use mathlib.Core.{Path.{_≡_}, List.{List, [], _∷_, map}, Bool.{true}}
 use Prim.Native.Nat.{ℕ, _+_, _<_, _≤_}
 use lib.ListN.{length}
 use Rattle.moore.specs.Objects.{Obj}
@@ -11,19 +9,16 @@ abbrev pub All : {X : Type 0} → (X → Type 0) → List X → Type 0
 All Q [] = Unit {0}
 All Q (x ∷ xs) = Q x × All Q xs
 
--- how many instructions and locals program p has
-abbrev pub count : Text → ℕ → ℕ
+abbrev pub count : Text → ℕ → ℕ  -- how many instructions program p has
 count m p = length (program m p .code)
 
-abbrev pub locals : Text → ℕ → ℕ
+abbrev pub locals : Text → ℕ → ℕ  -- and how many locals
 locals m p = program m p .formals + length (program m p .temps)
 
--- a legal object, where the data segment is d
-abbrev pub ProperObj : Text → List (List Obj) → Obj → Type 0
+abbrev pub ProperObj : Text → List (List Obj) → Obj → Type 0  -- a legal object, where the data segment is d
 ProperObj m d x = p-objectp x m d ≡ true
 
--- a frame of program p
-pub record ProperFrame (m : Text) (d : List (List Obj)) (p : ℕ) (f : Frame) : Type 0 where
+pub record ProperFrame (m : Text) (d : List (List Obj)) (p : ℕ) (f : Frame) : Type 0 where  -- a frame of program p
   pub many : length (f .locals) ≡ locals m p
   pub objects : All (ProperObj m d) (f .locals)
 

@@ -12,19 +12,13 @@ use Rattle.scope.specs.declared.Ran.{Ran}
 use Rattle.scope.specs.declared.Registers.{Registers}
 use Rattle.scope.specs.declared.Said.{Said}
 use Rattle.scope.specs.Cells.{cellOf, Bytes}
-use Rattle.scope.specs.Checks.{imageSays}
 use Rattle.scope.specs.States.{StateOk}
 use Rattle.scope.specs.Holding.{textOf, controlWords, buffer, Holds}
-use Rattle.scope.specs.Calls.{numberOf, placeOf, loadSays, runSays, reportSays, answerOf, Same, Loads, Runs, Steps, Reports}
+use Rattle.scope.specs.Calls.{numberOf, placeOf, loadSays, answerOf, Same, Loads, Runs, Steps, Reports}
 use Rattle.scope.specs.Calls.{StateSays, before, ill-formed, well-formed}
-use Rattle.scope.proofs.Tests.{both-fine}
-use Rattle.accept.proofs.Exact.{accepted-formed}
-use Rattle.cells.specs.Rows.{Sized}
-use Rattle.states.proofs.Lengths.{sized}
 use Rattle.sealed.proofs.Counts.{count-one}
 use Rattle.sealed.proofs.Report.{report-one}
-use Rattle.link.specs.Pack.{Kept}
-use Rattle.link.proofs.Theorems.{found}
+use Rattle.piton.proofs.States.{kept-to-run, kept-to-report}
 
 -- a p-state is held by one packing only
 held-one : (s : State) (r q : Registers) (d₁ t₁ c₁ d₂ t₂ c₂ : List ℕ) → Holds r d₁ t₁ c₁ s → Holds q d₂ t₂ c₂ s → length t₂ ≡ length t₁
@@ -93,31 +87,7 @@ module _ (v : Checked) (b : List ℕ) (r : Registers) (d t c : List ℕ) where
   said-well x (ill-formed e h) f = let z : _≡_ {A = ℕ} 0 1 = cc in absurd (omega arith)
   said-well x (well-formed e h) f = (e, h)
 
--- what image and buffers are when a run is not refused for them
-pub run-accepted : (b d t c : List ℕ) → runSays b (length d) (length t) (length c) ≡ Fine → (imageSays b ≡ Fine) × Sized b d t c
-unfolding runSays
-run-accepted b d t c e = let v = both-fine (imageSays b) _ e in (v .0, sized b d t c _ Fine (sym (v .1)) refl)
-
 module _ (b : List ℕ) (r : Registers) (d t c : List ℕ) (yb : Bytes b) (yd : Bytes d) (yt : Bytes t) (yc : Bytes c) where
-  -- the p-state of what is accepted
-  kept : imageSays b ≡ Fine → Sized b d t c → StateOk b r d t c → Kept b r d t c
-  kept i z o =
-      found b (accepted-formed b i) yb r d t c
-      (record {
-        data-bytes = yd;
-        temporary-bytes = yt;
-        control-bytes = yc;
-        sized = z;
-      })
-      o
-
-  pub kept-to-run : runSays b (length d) (length t) (length c) ≡ Fine → StateOk b r d t c → Kept b r d t c
-  kept-to-run e o = let v = run-accepted b d t c e in kept (v .0) (v .1) o
-
-  kept-to-report : (k : ℕ) → reportSays b (length d) (length t) (length c) k ≡ Fine → StateOk b r d t c → Kept b r d t c
-  unfolding reportSays
-  kept-to-report k e o = let v = both-fine (imageSays b) _ e in kept (v .0) (sized b d t c _ Fine (sym (v .1)) refl) o
-
   -- ---- run
 
   module _ (budget : ℕ) (o p : Ran) (d₁ t₁ c₁ d₂ t₂ c₂ : List ℕ) (f : Runs b r d t c budget o d₁ t₁ c₁) (g : Runs b r d t c budget p d₂ t₂ c₂) where
@@ -131,7 +101,7 @@ module _ (b : List ℕ) (r : Registers) (d t c : List ℕ) (yb : Bytes b) (yd : 
         by (Refused n q) e = unchanged _ o p d t c d₁ t₁ c₁ d₂ t₂ c₂ (f .refused n q e) (g .refused n q (sym same ∙ e))
         by Fine e =
             let w = said-well _ b r d t c (f .said) (f .says) e in
-            let k = kept-to-run (w .0) (w .1) in
+            let k = kept-to-run b d t c yb yd yt yc r (w .0) (w .1) in
             let x = f .ran e (k .state) (k .keeps) in
             let y = g .ran (sym same ∙ e) (k .state) (k .keeps) in
             let steps : o .steps ≡ p .steps = count-one (textOf b) (k .state) budget (o .steps) (p .steps) (x .0) (y .0) in
@@ -158,7 +128,7 @@ module _ (b : List ℕ) (r : Registers) (d t c : List ℕ) (yb : Bytes b) (yd : 
         by (Refused n q) e = unchanged _ o p d t c d₁ t₁ c₁ d₂ t₂ c₂ (f .refused n q e) (g .refused n q (sym same ∙ e))
         by Fine e =
             let w = said-well _ b r d t c (f .said) (f .says) e in
-            let k = kept-to-run (w .0) (w .1) in
+            let k = kept-to-run b d t c yb yd yt yc r (w .0) (w .1) in
             let x = f .stepped e (k .state) (k .keeps) in
             let y = g .stepped (sym same ∙ e) (k .state) (k .keeps) in
             held-one (p-step (textOf b) (k .state)) o p d₁ t₁ c₁ d₂ t₂ c₂ (x .1 .holds) (y .1 .holds) (y .0 .temporary ∙ sym (x .0 .temporary))
@@ -183,5 +153,5 @@ module _ (b : List ℕ) (r : Registers) (d t c : List ℕ) (yb : Bytes b) (yd : 
         by (Refused n q) e = f .refused n q e ∙ sym (g .refused n q (sym same ∙ e))
         by Fine e =
             let w = said-well _ b r d t c (f .said) (f .says) e in
-            let s = kept-to-report (length k) (w .0) (w .1) in
+            let s = kept-to-report b d t c yb yd yt yc r (length k) (w .0) (w .1) in
             report-one (textOf b) (s .state) k₁ k₂ (f .done e (s .state) (s .keeps)) (g .done (sym same ∙ e) (s .state) (s .keeps))

@@ -27,12 +27,13 @@ use Rattle.states.proofs.Lengths.{still-sized}
 use Rattle.link.proofs.Same.{same-word, area-same, same-text, same-lengths}
 use Rattle.link.proofs.Unique.{bare, AllTold, SameRest, same-rest, same-area}
 use Rattle.link.proofs.Theorems.{cells-seen, area-long, area-cell, told}
-use Rattle.sealed.specs.Agree.{Drawn}
+use Rattle.scope.specs.Sealed.{Drawn}
 use Rattle.sealed.specs.Reported.{EqualBut, SealedBy}
 use Rattle.sealed.proofs.Drawn.{drawn}
 use Rattle.sealed.proofs.Demand.{same-count}
 use Rattle.sealed.proofs.Report.{report-agree, demand-3-report}
-use Rattle.piton.proofs.One.{said-well, run-accepted, kept-to-run}
+use Rattle.piton.proofs.States.{run-accepted, kept-to-run}
+use Rattle.piton.proofs.One.{said-well}
 
 -- a 1 stands in the report
 in-report : (k : List ℕ) (n : ℕ) → length k ≡ n → (a : ℕ) → getD k a 0 ≡ 1 → a < n
@@ -199,8 +200,8 @@ module _ (b b′ : List ℕ) (r r′ : Registers) (d t c d′ t′ c′ : List �
       let v′ = run-accepted b′ d′ t′ c′ (x′ .0) in
       let w : WellFormed b = accepted-formed b (v .0) in
       let w′ : WellFormed b′ = accepted-formed b′ (v′ .0) in
-      let q = kept-to-run b r d t c yb yd yt yc (x .0) (x .1) in
-      let q′ = kept-to-run b′ r′ d′ t′ c′ yb′ yd′ yt′ yc′ (x′ .0) (x′ .1) in
+      let q = kept-to-run b d t c yb yd yt yc r (x .0) (x .1) in
+      let q′ = kept-to-run b′ d′ t′ c′ yb′ yd′ yt′ yc′ r′ (x′ .0) (x′ .1) in
       let s : State = q .state in
       let u : State = q′ .state in
       let report : Report (textOf b) s k = h .done hf s (q .keeps) in

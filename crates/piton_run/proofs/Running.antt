@@ -32,7 +32,7 @@ use Rattle.states.proofs.Lengths.{still-sized}
 use Rattle.link.proofs.Theorems.{cells-seen}
 use Rattle.packed.specs.Packed.{Packed}
 use Rattle.calls.specs.Answers.{refusedLoad, refusedRun}
-use Rattle.piton.proofs.Loaded.{loaded-well}
+use Rattle.piton.proofs.States.{loaded-well}
 use Rattle.piton_run.specs.declared.Lengths.{Lengths}
 use Rattle.piton_run.specs.Whole.{BytesFor, Asked, Fitting, RanWhole, refused, ran}
 
@@ -151,7 +151,7 @@ module _ (b d t c : List ℕ) (h : length b ≤ 65536) (f : Fitting b d t c) whe
           let w = loaded-well b d t c o d′ t′ c′ (bytes b yb) (bytes d′ yd) (bytes t′ yt) (bytes c′ yc) l e in
           let z = f .sized i in
           let z′ : Sized b d′ t′ c′ = still-sized b d t c d′ t′ c′ z (l .done e .0) in
-          let x = g .ran (said-fine i z′ (w .formed) (g .said) (g .says)) (initial b) (w .keeps) in
+          let x = g .ran (said-fine i z′ (w .1) (g .said) (g .says)) (initial b) (w .0) in
           let k =
           cells-seen b (accepted-formed b i) (bytes b yb) (q .registers) d″ t″ c″ (still-sized b d′ t′ c′ d″ t″ c″ z′ (x .3))
           (P (textOf b) (initial b) (q .steps)) (x .4) in

@@ -69,31 +69,24 @@ counted m s budget n l a e =
 
 -- ---- the three runs
 
--- the image is accepted and loaded, and a run under the run program's budget takes n steps and prints the lines
-pub record Prints (b : List ℕ) (n : ℕ) (expected : List (List ℕ)) : Type 0 where
-  pub accepted : imageSays b ≡ Fine
-  pub loaded : inputSays b ≡ Fine
-  pub count : Count (textOf b) (initial b) budget n
-  pub lines : printed n (P (textOf b) (initial b) n) ≡ expected
+-- a run under the run program's budget takes n steps and prints the lines
+written : {b : List ℕ} {n : ℕ} {expected : List (List ℕ)} → inputSays b ≡ Fine → Count (textOf b) (initial b) budget n
+    → printed n (P (textOf b) (initial b) n) ≡ expected → Writes b (inLines expected)
+written {b} e c l = subst (λ (x : List (List ℕ)). Writes b (inLines x)) l (ran e c)
 
-pub worked : Prints (image 3 2) 5 ((0 ∷ 0 ∷ 5 ∷ 1 ∷ 0 ∷ 4 ∷ 0 ∷ 2 ∷ []) ∷ (0 ∷ 1 ∷ 0 ∷ 2 ∷ []) ∷ (1 ∷ 1 ∷ 0 ∷ 9 ∷ []) ∷ [])
+pub worked : (imageSays (image 3 2) ≡ Fine) × Writes (image 3 2) (inLines ((0 ∷ 0 ∷ 5 ∷ 1 ∷ 0 ∷ 4 ∷ 0 ∷ 2 ∷ []) ∷ (0 ∷ 1 ∷ 0 ∷ 2 ∷ []) ∷ (1 ∷ 1 ∷ 0 ∷ 9 ∷ []) ∷ []))
 unfolding inputSays loadSays andThen boundsOf programTests areaTests cellTests codeTests imageSays imageTests firstFailing choose word u32At u16At programField areaField instructionAt kindOf conditionsOf operandBound ranges sections programOk areaOk casesOk ends instructionOk rowOf objectp intFrom cellOf objectOf insOf textOf initial program fetch-adp deposit-adp p-objectp p-objectp-type need p-ins-okp p-return p-ins-step p-settle p-step1 insAt p-step-by p-step P
-worked = record { accepted = refl; loaded = refl; count = counted _ _ _ 5 (omega arith) refl refl; lines = refl }
+worked = (refl, written refl (counted _ _ _ 5 (omega arith) refl refl) refl)
 
 -- "With NAT 0 first: answer 2, 3 steps, offset 2, 2 temporary cells."
-pub nat-0-first : Prints (image 0 2) 3 ((2 ∷ 0 ∷ 3 ∷ 2 ∷ 0 ∷ 2 ∷ 2 ∷ 2 ∷ []) ∷ (0 ∷ 1 ∷ 0 ∷ 0 ∷ []) ∷ (1 ∷ 1 ∷ 0 ∷ 9 ∷ []) ∷ [])
+pub nat-0-first : (imageSays (image 0 2) ≡ Fine) × Writes (image 0 2) (inLines ((2 ∷ 0 ∷ 3 ∷ 2 ∷ 0 ∷ 2 ∷ 2 ∷ 2 ∷ []) ∷ (0 ∷ 1 ∷ 0 ∷ 0 ∷ []) ∷ (1 ∷ 1 ∷ 0 ∷ 9 ∷ []) ∷ []))
 unfolding inputSays loadSays andThen boundsOf programTests areaTests cellTests codeTests imageSays imageTests firstFailing choose word u32At u16At programField areaField instructionAt kindOf conditionsOf operandBound ranges sections programOk areaOk casesOk ends instructionOk rowOf objectp intFrom cellOf objectOf insOf textOf initial program fetch-adp deposit-adp p-objectp p-objectp-type need p-ins-okp p-return p-ins-step p-settle p-step1 insAt p-step-by p-step P
-nat-0-first = record { accepted = refl; loaded = refl; count = counted _ _ _ 3 (omega arith) refl refl; lines = refl }
+nat-0-first = (refl, written refl (counted _ _ _ 3 (omega arith) refl refl) refl)
 
 -- "With T 1 instead: ERROR at step 2."
-pub t-1 : Prints (image 3 1) 2 ((2 ∷ 0 ∷ 2 ∷ 2 ∷ 0 ∷ 1 ∷ 1 ∷ 2 ∷ []) ∷ (0 ∷ 1 ∷ 0 ∷ 3 ∷ []) ∷ (1 ∷ 1 ∷ 0 ∷ 9 ∷ []) ∷ [])
+pub t-1 : (imageSays (image 3 1) ≡ Fine) × Writes (image 3 1) (inLines ((2 ∷ 0 ∷ 2 ∷ 2 ∷ 0 ∷ 1 ∷ 1 ∷ 2 ∷ []) ∷ (0 ∷ 1 ∷ 0 ∷ 3 ∷ []) ∷ (1 ∷ 1 ∷ 0 ∷ 9 ∷ []) ∷ []))
 unfolding inputSays loadSays andThen boundsOf programTests areaTests cellTests codeTests imageSays imageTests firstFailing choose word u32At u16At programField areaField instructionAt kindOf conditionsOf operandBound ranges sections programOk areaOk casesOk ends instructionOk rowOf objectp intFrom cellOf objectOf insOf textOf initial program fetch-adp deposit-adp p-objectp p-objectp-type need p-ins-okp p-return p-ins-step p-settle p-step1 insAt p-step-by p-step P
-t-1 = record { accepted = refl; loaded = refl; count = counted _ _ _ 2 (omega arith) refl refl; lines = refl }
-
--- ---- in bytes
-
-pub written : {b : List ℕ} {n : ℕ} {expected : List (List ℕ)} → Prints b n expected → Writes b (inLines expected)
-written {b} p = subst (λ (l : List (List ℕ)). Writes b (inLines l)) (p .lines) (ran (p .loaded) (p .count))
+t-1 = (refl, written refl (counted _ _ _ 2 (omega arith) refl refl) refl)
 
 -- "12 1 0 907" and a line's end
 pub a-line : inLines ((12 ∷ 1 ∷ 0 ∷ 907 ∷ []) ∷ []) ≡ 49 ∷ 50 ∷ 32 ∷ 49 ∷ 32 ∷ 48 ∷ 32 ∷ 57 ∷ 48 ∷ 55 ∷ 10 ∷ []

@@ -1,33 +1,21 @@
 -- What each call says and leaves (01, "What each call says"): the promises of load, run, report and step, for every input.
-use mathlib.Core.Path.{_≡_}
-use mathlib.Core.List.{List, [], _∷_}
+use mathlib.Core.{Path.{_≡_}, List.{List, [], _∷_}}
 use Prim.Native.Nat.{ℕ, _+_, _*_, _<_, _≤_}
-use lib.Dec.{eqb, leb}
-use lib.ListN.{length}
+use lib.{Dec.{eqb, leb}, ListN.{length}}
 use Rattle.moore.specs.Machine.{Text, Psw, run, halt, error, State, P, p-step}
-use Rattle.scope.specs.declared.Registers.{Registers}
-use Rattle.scope.specs.declared.Checked.{Checked}
-use Rattle.scope.specs.declared.Checked.the-variants.{Fine, Refused}
-use Rattle.scope.specs.declared.Loaded.{Loaded}
-use Rattle.scope.specs.declared.Ran.{Ran}
-use Rattle.scope.specs.declared.Said.{Said}
-use Rattle.scope.specs.Image.{areas, dataCells, controlLimit, temporaryLimit, temps}
-use Rattle.scope.specs.Checks.{Test, test, firstFailing, imageSays}
-use Rattle.scope.specs.Holding.{textOf, initial, Holds, Keeps}
-use Rattle.scope.specs.States.{StateOk}
-use Rattle.scope.specs.Reach.{Report}
+use Rattle.scope.specs.declared.{Registers.{Registers}, Checked.{Checked, the-variants.{Fine, Refused}}}
+use Rattle.scope.specs.declared.{Loaded.{Loaded}, Ran.{Ran}, Said.{Said}}
+use Rattle.scope.specs.{Image.{areas, dataCells, controlLimit, temporaryLimit, temps}, Checks.{Test, test, firstFailing, imageSays}}
+use Rattle.scope.specs.{Holding.{textOf, initial, Holds, Keeps}, States.{StateOk}, Reach.{Report}}
 
 -- the number and the place of a check's outcome: "load and report: done" is 0, and so is its place
 abbrev pub numberOf : Checked → ℕ
-numberOf Fine = 0
-numberOf (Refused n p) = n
+numberOf v = elim v [ Fine ↦ 0 | Refused n p ↦ n ]
 
 abbrev pub placeOf : Checked → ℕ
-placeOf Fine = 0
-placeOf (Refused n p) = p
+placeOf v = elim v [ Fine ↦ 0 | Refused n p ↦ p ]
 
--- one check and then another: the first refusal counts
-unfoldable pub andThen : Checked → Checked → Checked
+unfoldable pub andThen : Checked → Checked → Checked  -- one check and then another: the first refusal counts
 andThen Fine k = k
 andThen (Refused n p) k = Refused n p
 
@@ -35,10 +23,7 @@ andThen (Refused n p) k = Refused n p
 
 abbrev pub bufferTests : List ℕ → ℕ → ℕ → ℕ → List Test → List Test
 bufferTests b d t c more =
-    test 18 0 (eqb d (8 * dataCells b))
-    ∷ test 18 1 (eqb t (8 * temporaryLimit b))
-    ∷ test 18 2 (eqb c (8 * controlLimit b))
-    ∷ more
+    test 18 0 (eqb d (8 * dataCells b)) ∷ test 18 1 (eqb t (8 * temporaryLimit b)) ∷ test 18 2 (eqb c (8 * controlLimit b)) ∷ more
 
 -- of buffers of d, t and c bytes, and a report of k
 unfoldable pub loadSays : List ℕ → ℕ → ℕ → ℕ → Checked
@@ -59,8 +44,7 @@ pub data StateSays (v : Checked) (b : List ℕ) (r : Registers) (d t c : List �
 
 -- ---- load
 
--- "a refused load returns zeros with status 3"
-abbrev pub noRegisters : Registers
+abbrev pub noRegisters : Registers  -- "a refused load returns zeros with status 3"
 noRegisters = record { program = 0; offset = record { 0 = 0 }; base = 0; control = 0; temporary = 0; status = 3; error = 0 }
 
 pub record Same (d t c d′ t′ c′ : List ℕ) : Type 0 where
@@ -90,11 +74,8 @@ pub record Count (m : Text) (s : State) (budget n : ℕ) : Type 0 where
   pub before : (k : ℕ) → k < n → P m s k .psw ≡ run
   pub least : n < budget → P m s n .psw ≡ run → ⊥
 
--- 0 HALT, 1 "budget spent, status RUN", 2 ERROR
-abbrev pub answerOf : Psw → ℕ
-answerOf run = 1
-answerOf halt = 0
-answerOf (error c) = 2
+abbrev pub answerOf : Psw → ℕ  -- 0 HALT, 1 "budget spent, status RUN", 2 ERROR
+answerOf w = elim w [ run ↦ 1 | halt ↦ 0 | error c ↦ 2 ]
 
 -- "A refused run returns its state and 0 steps"; "Answers 0 to 2 have place 0"
 pub record Runs (b : List ℕ) (r : Registers) (d t c : List ℕ) (budget : ℕ) (out : Ran) (d′ t′ c′ : List ℕ) : Type 0 where
@@ -106,7 +87,7 @@ pub record Runs (b : List ℕ) (r : Registers) (d t c : List ℕ) (budget : ℕ)
       → Count (textOf b) s budget (out .steps) × (out .answer ≡ answerOf (P (textOf b) s (out .steps) .psw)) × (out .place ≡ 0)
       × SameLengths d t c d′ t′ c′ × Keeps b (out .registers) d′ t′ c′ (P (textOf b) s (out .steps))
 
--- ---- report
+-- ---- report and step
 
 -- data and stacks are lent to be read alone; the report k becomes k′
 pub record Reports (b : List ℕ) (r : Registers) (d t c k : List ℕ) (out : Said) (k′ : List ℕ) : Type 0 where
@@ -117,8 +98,7 @@ pub record Reports (b : List ℕ) (r : Registers) (d t c k : List ℕ) (out : Sa
   pub refused : (n p : ℕ) → said ≡ Refused n p → k′ ≡ k
   pub done : said ≡ Fine → (s : State) → Keeps b r d t c s → Report (textOf b) s k′
 
--- ---- one step; "on anything not accepted" nothing changes
-
+-- one step; "on anything not accepted" nothing changes
 pub record Steps (b : List ℕ) (r : Registers) (d t c : List ℕ) (r′ : Registers) (d′ t′ c′ : List ℕ) : Type 0 where
   pub said : Checked
   pub says : StateSays (runSays b (length d) (length t) (length c)) b r d t c said

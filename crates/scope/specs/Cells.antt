@@ -1,15 +1,11 @@
 -- Numbers and cells in bytes, and the object of a cell (01, "Objects").
-use mathlib.Core.List.{List, [], _∷_, _++_}
-use mathlib.Core.Bool.{Bool, false, _&&_}
+use mathlib.Core.{List.{List, [], _∷_, _++_}, Bool.{Bool, false, _&&_}}
 use Prim.Native.Nat.{ℕ, zero, suc, _+_, _-_, _*_, _/_, _%_, _^_, _<_}
-use lib.Dec.{ltb, leb, eqb}
-use lib.IntN.{ℤ, pos, negsuc}
-use lib.ListN.{length, getD}
+use lib.{Dec.{ltb, leb, eqb}, IntN.{ℤ, pos, negsuc}, ListN.{length, getD}}
 use Rattle.moore.specs.Objects.{Obj, nat, int, bitv, bool, addr, pc, subr, choose}
 use Rattle.scope.specs.declared.Cell.{Cell}
 
--- a list of bytes, as every lent slice is
-abbrev pub Bytes : List ℕ → Type 0
+abbrev pub Bytes : List ℕ → Type 0  -- a list of bytes, as every lent slice is
 Bytes b = (i : ℕ) → getD b i 0 < 256
 
 -- "All numbers are little-endian."
@@ -26,35 +22,31 @@ cellFrom b at = record { tag = getD b at 0; zero = getD b (at + 1) 0; name = u16
 abbrev pub cellAt : List ℕ → ℕ → Cell
 cellAt b i = cellFrom b (8 * i)
 
--- its bytes
 abbrev pub le16 : ℕ → List ℕ
 le16 n = n % 256 ∷ n / 256 % 256 ∷ []
 
 abbrev pub le32 : ℕ → List ℕ
 le32 n = n % 256 ∷ n / 256 % 256 ∷ n / 65536 % 256 ∷ n / 16777216 % 256 ∷ []
 
-abbrev pub bytesOf : Cell → List ℕ
+abbrev pub bytesOf : Cell → List ℕ  -- its bytes
 bytesOf c = c .tag ∷ c .zero ∷ (le16 (c .name) ++ le32 (c .value))
 
 abbrev pub cell : ℕ → ℕ → ℕ → Cell
 cell t n v = record { tag = t; zero = 0; name = n; value = v }
 
--- "Free stack room is eight zero bytes, which is no object."
-abbrev pub free : Cell
+abbrev pub free : Cell  -- "Free stack room is eight zero bytes, which is no object."
 free = cell 0 0 0
 
 -- ---- the cell of an object, and the object of a cell
 
--- "two's complement": 32 bits, whatever the word size
-abbrev pub wordOf : ℤ → ℕ
+abbrev pub wordOf : ℤ → ℕ  -- "two's complement": 32 bits, whatever the word size
 wordOf (pos n) = n
 wordOf (negsuc n) = 2 ^ 32 - suc n
 
 unfoldable pub intFrom : ℕ → ℤ
 intFrom v = choose (ltb v (2 ^ 31)) (pos v) (negsuc (2 ^ 32 - suc v))
 
--- "first bit of the source's list highest"
-abbrev pub bitsValue : List Bool → ℕ
+abbrev pub bitsValue : List Bool → ℕ  -- "first bit of the source's list highest"
 bitsValue [] = 0
 bitsValue (b ∷ bs) = choose b (2 ^ length bs) 0 + bitsValue bs
 
@@ -62,8 +54,7 @@ abbrev pub bitsFrom : ℕ → ℕ → List Bool
 bitsFrom zero v = []
 bitsFrom (suc n) v = leb (2 ^ n) v ∷ bitsFrom n (choose (leb (2 ^ n) v) (v - 2 ^ n) v)
 
--- row by row; BOOL "0 F, 1 T"
-unfoldable pub cellOf : Obj → Cell
+unfoldable pub cellOf : Obj → Cell  -- row by row; BOOL "0 F, 1 T"
 cellOf (nat n) = cell 1 0 n
 cellOf (int z) = cell 2 0 (wordOf z)
 cellOf (bitv b) = cell 3 0 (bitsValue b)
@@ -72,8 +63,7 @@ cellOf (addr a o) = cell 5 a o
 cellOf (pc p o) = cell 6 p o
 cellOf (subr p) = cell 7 p 0
 
--- with words of w bits
-unfoldable pub objectOf : ℕ → Cell → Obj
+unfoldable pub objectOf : ℕ → Cell → Obj  -- with words of w bits
 objectOf w c =
     choose (eqb (c .tag) 1) (nat (c .value))
     (choose (eqb (c .tag) 2) (int (intFrom (c .value)))
@@ -85,15 +75,13 @@ objectOf w c =
 
 -- ---- cells that are objects
 
--- how many areas and programs there are, and the length of each
-pub record Bounds : Type 0 where
+pub record Bounds : Type 0 where  -- how many areas and programs there are, and the length of each
   pub areas : ℕ
   pub areaLength : ℕ → ℕ
   pub programs : ℕ
   pub instructionCount : ℕ → ℕ
 
--- row by row; NAT, INT and BITV have any value of 32 bits
-unfoldable pub rowOf : Bounds → Cell → Bool
+unfoldable pub rowOf : Bounds → Cell → Bool  -- row by row; NAT, INT and BITV have any value of 32 bits
 rowOf x c =
     choose (eqb (c .tag) 1) (eqb (c .name) 0)
     (choose (eqb (c .tag) 2) (eqb (c .name) 0)

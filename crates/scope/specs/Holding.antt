@@ -1,22 +1,16 @@
 -- The programs and the p-state that an image means, and how registers and buffers hold a p-state (01, "State and well-formedness").
-use mathlib.Core.List.{List, [], _∷_, _++_, map, reverse}
+use mathlib.Core.{Path.{_≡_}, List.{List, [], _∷_, _++_, map, reverse}}
 use Prim.Native.Nat.{ℕ, _+_, _-_}
 use lib.ListN.{length, getD, replicate}
-use Rattle.moore.specs.Objects.{Obj, offset}
 use Rattle.moore.specs.Machine as M
 use Rattle.moore.specs.Machine.{Ins, Program, Text, State, run, Frame, Psw, halt, error, ctrl-size}
-use Rattle.moore.specs.Proper.{ProperState}
-use Rattle.scope.specs.declared.Cell.{Cell}
-use Rattle.scope.specs.declared.Instruction.{Instruction}
+use Rattle.moore.specs.{Objects.{Obj, offset}, Proper.{ProperState}}
+use Rattle.scope.specs.declared.{Cell.{Cell}, Instruction.{Instruction}, Registers.{Registers}}
 use Rattle.scope.specs.Image.{programs, areas, constants, controlLimit, temporaryLimit, instructionCount, formals, temps, firstTemp}
 use Rattle.scope.specs.Image.{firstCell, areaLength, instructionOf, constantAt, dataCellAt}
-use Rattle.scope.specs.Cells.{objectOf, bytesOf, cell, cellOf}
-use Rattle.scope.specs.Checks.{tab}
-use mathlib.Core.Path.{_≡_}
-use Rattle.scope.specs.declared.Registers.{Registers}
+use Rattle.scope.specs.{Cells.{objectOf, bytesOf, cell, cellOf}, Checks.{tab}}
 
--- "Word size is 32."
-abbrev pub wordSize : ℕ
+abbrev pub wordSize : ℕ  -- "Word size is 32."
 wordSize = 32
 
 abbrev pub object : Cell → Obj
@@ -43,11 +37,7 @@ initialTemps b p = tab (λ k. constantOf b (firstTemp b p + k)) (temps b p)
 
 abbrev pub programOf : List ℕ → ℕ → Program
 programOf b p =
-    record {
-      formals = formals b p;
-      temps = initialTemps b p;
-      code = tab (λ o. insOf b (instructionOf b p o)) (instructionCount b p);
-    }
+    record { formals = formals b p; temps = initialTemps b p; code = tab (λ o. insOf b (instructionOf b p o)) (instructionCount b p) }
 
 unfoldable pub textOf : List ℕ → Text
 textOf b =
@@ -59,21 +49,14 @@ textOf b =
       word-size = wordSize;
     }
 
--- the cells of an area, as the image has them
-abbrev pub areaOf : List ℕ → ℕ → List Obj
+abbrev pub areaOf : List ℕ → ℕ → List Obj  -- the cells of an area, as the image has them
 areaOf b a = tab (λ k. object (dataCellAt b (firstCell b a + k))) (areaLength b a)
 
 -- "Load sets pc (0,0), the data, the bottom frame with its initial temps, an empty temporary stack and RUN."
 unfoldable pub initial : List ℕ → State
 initial b =
-    record {
-      prog = 0;
-      off = 0;
-      ctrl = record { locals = initialTemps b 0; prog = 0; off = 0 } ∷ [];
-      temp = [];
-      areas = tab (areaOf b) (areas b);
-      psw = run;
-    }
+    let frame : Frame = record { locals = initialTemps b 0; prog = 0; off = 0 } in
+    record { prog = 0; off = 0; ctrl = frame ∷ []; temp = []; areas = tab (areaOf b) (areas b); psw = run }
 
 abbrev pub inBytes : List Cell → List ℕ
 inBytes [] = []
@@ -91,26 +74,19 @@ baseOf (f ∷ below) = ctrl-size below
 abbrev pub frameWords : Frame → List Frame → List Cell
 frameWords f below = cell 6 (f .prog) (f .off) ∷ cell 1 0 (baseOf below) ∷ map cellOf (f .locals)
 
--- the control words, lowest first
-abbrev pub controlWords : List Frame → List Cell
+abbrev pub controlWords : List Frame → List Cell  -- the control words, lowest first
 controlWords [] = []
 controlWords (f ∷ below) = controlWords below ++ frameWords f below
 
--- the areas one behind the other
-abbrev pub dataWords : List (List Obj) → List Cell
+abbrev pub dataWords : List (List Obj) → List Cell  -- the areas one behind the other
 dataWords [] = []
 dataWords (a ∷ d) = map cellOf a ++ dataWords d
 
--- "status (0 RUN, 1 HALT, 2 ERROR, 3 none), error code"
-abbrev pub statusOf : Psw → ℕ
-statusOf run = 0
-statusOf halt = 1
-statusOf (error c) = 2
+abbrev pub statusOf : Psw → ℕ  -- "status (0 RUN, 1 HALT, 2 ERROR, 3 none)"
+statusOf w = elim w [ run ↦ 0 | halt ↦ 1 | error c ↦ 2 ]
 
-abbrev pub errorOf : Psw → ℕ
-errorOf run = 0
-errorOf halt = 0
-errorOf (error c) = c
+abbrev pub errorOf : Psw → ℕ  -- "error code"
+errorOf w = elim w [ run ↦ 0 | halt ↦ 0 | error c ↦ c ]
 
 abbrev pub registersOf : State → Registers
 registersOf s =
@@ -131,14 +107,10 @@ pub record Holds (r : Registers) (d t c : List ℕ) (s : State) : Type 0 where
   pub temporary : t ≡ buffer (length t) (map cellOf (reverse (s .temp)))
   pub control : c ≡ buffer (length c) (controlWords (s .ctrl))
 
--- ---- the p-state that an image, registers and buffers hold
-
--- the lengths of the image's areas
-abbrev pub lengthsOf : List ℕ → List ℕ
+abbrev pub lengthsOf : List ℕ → List ℕ  -- the lengths of the image's areas
 lengthsOf b = tab (areaLength b) (areas b)
 
--- a proper p-state of the image: its words, its areas
-abbrev pub Proper : List ℕ → State → Type 0
+abbrev pub Proper : List ℕ → State → Type 0  -- a proper p-state of the image: its words, its areas
 Proper b s = ProperState (textOf b) (lengthsOf b) s
 
 -- packed as `Holds` says; the bytes alone would hold others too, as a number that is too large for its word

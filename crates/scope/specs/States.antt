@@ -1,14 +1,10 @@
 -- A well-formed state, sentence by sentence (01, "A state is well-formed when: ..").
-use mathlib.Core.Path.{_≡_}
-use mathlib.Core.List.{List}
-use mathlib.Core.Bool.{true}
+use mathlib.Core.{Path.{_≡_}, List.{List}, Bool.{true}}
 use Prim.Native.Nat.{ℕ, _+_, _<_, _≤_}
 use lib.Dec.{eqb}
 use Rattle.moore.specs.Objects.{choose}
-use Rattle.scope.specs.declared.Registers.{Registers}
-use Rattle.scope.specs.Cells.{cellAt, cell, free, objectp}
+use Rattle.scope.specs.{declared.Registers.{Registers}, Cells.{cellAt, cell, free, objectp}, Checks.{boundsOf}}
 use Rattle.scope.specs.Image.{programs, dataCells, controlLimit, temporaryLimit, instructionCount, locals, instructionOf}
-use Rattle.scope.specs.Checks.{boundsOf}
 
 -- the top frame is of program p, from word `base` up to word `end`: "the top frame fits pc's program, each lower one the program of the
 -- return PC above it; frames fill exactly the used words". "The bottom frame belongs to program 0, with base 0, caller base 0 and return
@@ -24,8 +20,7 @@ Objects b x high = (i : ℕ) → i < high → objectp (boundsOf b) (cellAt x i) 
 abbrev pub Free : List ℕ → ℕ → ℕ → Type 0
 Free x low high = (i : ℕ) → low ≤ i → i < high → cellAt x i ≡ free
 
--- "the error code is the code at pc under ERROR, else 0"
-abbrev pub errorCode : List ℕ → Registers → ℕ
+abbrev pub errorCode : List ℕ → Registers → ℕ  -- "the error code is the code at pc under ERROR, else 0"
 errorCode b r = choose (eqb (r .status) 2) (instructionOf b (r .program) (r .offset .0) .code) 0
 
 pub record StateOk (b : List ℕ) (r : Registers) (d t c : List ℕ) : Type 0 where

@@ -20,7 +20,7 @@ use Rattle.moore.proofs.Lists.{all-drop, all-take, all-append, all-reverse, all
 use Rattle.moore.proofs.Areas.{deposit-other, deposit-same, deposit-none, deposit-many}
 use Rattle.moore.proofs.Objects.{both, clause, clause-one, clause-two, clause-same, typed, an-addr, objectp-by}
 use Rattle.scope.specs.Reach.{pushes, pops, sets}
-use Rattle.sealed.specs.Agree.{Alike, Agree, Kept}
+use Rattle.scope.specs.Sealed.{Alike, Agree, Kept}
 use Rattle.sealed.specs.Closed.{Inside, Uses, program-of, constant-of, global-of, InText, InFrame, InState}
 
 -- the same p-state with other areas

@@ -7,7 +7,7 @@ use Rattle.moore.specs.Machine.{Text, State, p-step, P}
 use Rattle.moore.proofs.Lists.{all-at}
 use Rattle.scope.specs.Reach.{InReach}
 use Rattle.scope.specs.Calls.{Count}
-use Rattle.sealed.specs.Agree.{Agree, SameCells, Kept, Within, Drawn}
+use Rattle.scope.specs.Sealed.{Agree, SameCells, Kept, Within, Drawn}
 use Rattle.sealed.specs.Reported.{Sealed}
 use Rattle.sealed.specs.Closed.{Inside, InFrame, InState}
 use Rattle.sealed.proofs.Closed.{step-moves}

@@ -13,7 +13,7 @@ use Rattle.scope.specs.Checks.{tab, WellFormed}
 use Rattle.scope.specs.Holding.{constantOf, insList, insOf, programOf, textOf}
 use Rattle.scope.proofs.Tabs.{getD-tab, tab-out, tab-has, tab-holds}
 use Rattle.scope.proofs.Formed.{constant-in, temps-in}
-use Rattle.sealed.specs.Agree.{Drawn}
+use Rattle.scope.specs.Sealed.{Drawn}
 
 -- ---- only code 3 pushes a constant
 

@@ -7,7 +7,7 @@ use Rattle.moore.specs.Objects.{Obj}
 use Rattle.moore.specs.Machine.{Text, Frame, State, P}
 use Rattle.moore.specs.Proper.{All}
 use Rattle.scope.specs.Calls.{Count}
-use Rattle.sealed.specs.Agree.{Agree, SameCells}
+use Rattle.scope.specs.Sealed.{Agree, SameCells}
 use Rattle.sealed.specs.Reported.{Sealed}
 use Rattle.sealed.specs.Closed.{Inside, InFrame, InState, Notion}
 use Rattle.sealed.proofs.Closed.{Moves, steps-move}

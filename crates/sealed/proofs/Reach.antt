@@ -6,7 +6,7 @@ use Rattle.moore.specs.Objects.{Obj, nat, int, bitv, bool, addr, pc, subr}
 use Rattle.moore.specs.Machine.{Ins, push-constant, Text, Frame, State, program, insAt, area}
 use Rattle.moore.proofs.Lists.{all-at, all-of}
 use Rattle.scope.specs.Reach.{Global, Named, by-operand, by-constant, by-temporary, by-control, Leads, lies, Chain, starts, goes-on, InReach}
-use Rattle.sealed.specs.Agree.{Drawn}
+use Rattle.scope.specs.Sealed.{Drawn}
 use Rattle.sealed.specs.Closed.{Inside, Uses, program-of, constant-of, global-of, InText, InFrame, InState, Notion}
 use Rattle.sealed.proofs.Chains.{chain-bound}
 

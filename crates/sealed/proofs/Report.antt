@@ -12,7 +12,7 @@ use Rattle.moore.specs.Machine.{Text, State, program, area, P}
 use Rattle.moore.specs.Proper.{All}
 use Rattle.moore.proofs.Lists.{all-at, all-of}
 use Rattle.scope.specs.Reach.{InReach, Report}
-use Rattle.sealed.specs.Agree.{Agree, Drawn}
+use Rattle.scope.specs.Sealed.{Agree, Drawn}
 use Rattle.sealed.specs.Reported.{Sealed, EqualBut, SealedBy}
 use Rattle.sealed.specs.Closed.{Inside, InText, InFrame, InState}
 use Rattle.sealed.proofs.Closed.{Moves, steps-move}

@@ -7,7 +7,7 @@ use Prim.Native.Nat.{ℕ, _<_}
 use lib.ListN.{length, getD}
 use Rattle.moore.specs.Machine.{Text, State, area}
 use Rattle.scope.specs.Reach.{Report}
-use Rattle.sealed.specs.Agree.{Agree, Kept}
+use Rattle.scope.specs.Sealed.{Agree, Kept}
 
 -- s runs to x and t to y, and R is a notion of reach: both end equal but for cells in areas that were out of reach, with one reach, which
 -- has not grown; and the areas that were out of reach are as they began

@@ -12,13 +12,12 @@ use Rattle.scope.specs.declared.Ran.{Ran}
 use Rattle.scope.specs.declared.Registers.{Registers}
 use Rattle.scope.specs.declared.Said.{Said}
 use Rattle.scope.specs.Cells.{cellOf, Bytes}
-use Rattle.scope.specs.States.{StateOk}
 use Rattle.scope.specs.Holding.{textOf, controlWords, buffer, Holds}
 use Rattle.scope.specs.Calls.{numberOf, placeOf, loadSays, answerOf, Same, Loads, Runs, Steps, Reports}
 use Rattle.scope.specs.Calls.{StateSays, before, ill-formed, well-formed}
 use Rattle.sealed.proofs.Counts.{count-one}
 use Rattle.sealed.proofs.Report.{report-one}
-use Rattle.piton.proofs.States.{kept-to-run, kept-to-report}
+use Rattle.piton.proofs.States.{said-well, kept-to-run, kept-to-report}
 
 -- a p-state is held by one packing only
 held-one : (s : State) (r q : Registers) (d₁ t₁ c₁ d₂ t₂ c₂ : List ℕ) → Holds r d₁ t₁ c₁ s → Holds q d₂ t₂ c₂ s → length t₂ ≡ length t₁
@@ -81,11 +80,6 @@ module _ (v : Checked) (b : List ℕ) (r : Registers) (d t c : List ℕ) where
   says-one x y (well-formed e h) (before f) = let z : _≡_ {A = ℕ} 0 1 = cc in absurd (omega arith)
   says-one x y (well-formed e h) (ill-formed f k) = absurd (k h)
   says-one x y (well-formed e h) (well-formed f k) = refl
-
-  pub said-well : (x : Checked) → StateSays v b r d t c x → x ≡ Fine → (v ≡ Fine) × StateOk b r d t c
-  said-well x (before e) f = let z : _≡_ {A = ℕ} 0 1 = cc in absurd (omega arith)
-  said-well x (ill-formed e h) f = let z : _≡_ {A = ℕ} 0 1 = cc in absurd (omega arith)
-  said-well x (well-formed e h) f = (e, h)
 
 module _ (b : List ℕ) (r : Registers) (d t c : List ℕ) (yb : Bytes b) (yd : Bytes d) (yt : Bytes t) (yc : Bytes c) where
   -- ---- run

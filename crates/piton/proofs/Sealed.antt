@@ -32,8 +32,7 @@ use Rattle.sealed.specs.Reported.{EqualBut, SealedBy}
 use Rattle.sealed.proofs.Drawn.{drawn}
 use Rattle.sealed.proofs.Demand.{same-count}
 use Rattle.sealed.proofs.Report.{report-agree, demand-3-report}
-use Rattle.piton.proofs.States.{run-accepted, kept-to-run}
-use Rattle.piton.proofs.One.{said-well}
+use Rattle.piton.proofs.States.{said-well, run-accepted, kept-to-run}
 
 -- a 1 stands in the report
 in-report : (k : List ℕ) (n : ℕ) → length k ≡ n → (a : ℕ) → getD k a 0 ≡ 1 → a < n

@@ -81,9 +81,6 @@ cells-put n i b c h f t =
     are-cells n (putAt b i c) (set (cells n b) i c) (length-set (cells n b) i c ∙ length-cells n b)
     (λ j lt. put-one n i j b c h lt f t (ℕ-discrete j i))
 
-pub cells-put-above : (n i : ℕ) (b : List ℕ) (c : Cell) → n ≤ i → cells n (putAt b i c) ≡ cells n b
-cells-put-above n i b c h = same-cells n (putAt b i c) b (λ j lt. get-put-other b i j c (λ e. omega arith))
-
 -- ---- cells from a byte
 
 pub from-none : (b : List ℕ) (at : ℕ) → cellsFrom b at 0 ≡ []
@@ -122,13 +119,6 @@ fit-from b at p =
 
 pub fit-cell : (b : List ℕ) (i : ℕ) → Bytes b → Fit (cellAt b i)
 fit-cell b i p = fit-from b (8 * i) p
-
-pub fits-none : Fits []
-fits-none i = free-fits
-
-pub fits-cons : (c : Cell) (cs : List Cell) → Fit c → Fits cs → Fits (c ∷ cs)
-fits-cons c cs f fs zero = f
-fits-cons c cs f fs (suc i) = fs i
 
 pub fits-append : (cs ds : List Cell) → Fits cs → Fits ds → Fits (cs ++ ds)
 fits-append [] ds f g i = g i

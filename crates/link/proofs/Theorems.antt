@@ -144,17 +144,7 @@ module _ (b : List ℕ) (w : WellFormed b) (y : Bytes b) where
         (sym (sees r d t c n s k .cells) ∙ sees r d t c n u l .cells)
 
     module _ (s : State) (k : Keeps b r d t c s) (r' : Registers) (d' t' c' : List ℕ) (n' : Lent b d' t' c') (g : Roomy r' t' c') where
-      -- Registers and buffers in which a step on the cells before is seen hold Moore's step of the p-state before ..
-      pub step-keeps : seen r' d' t' c' ≡ step b (seen r d t c) → Keeps b r' d' t' c' (p-step (textOf b) s)
-      step-keeps e =
-          record {
-            proper = S.step-proper b w y s (k .proper);
-            holds =
-                seen-holds r' d' t' c' n' (p-step (textOf b) s)
-                (record { cells = e ∙ ap (step b) (sees r d t c n s k .cells) ∙ step-packs s (k .proper); roomy = g });
-          }
-
-      -- .. and so with n steps.
+      -- Registers and buffers in which n steps on the cells before are seen hold Moore's n steps of the p-state before.
       pub steps-keep : (i : ℕ) → seen r' d' t' c' ≡ steps b (seen r d t c) i → Keeps b r' d' t' c' (P (textOf b) s i)
       steps-keep i e =
           record {

@@ -5,13 +5,13 @@ use mathlib.Core.Bool.{Bool, true, false, not, false≢true}
 use Prim.Native.Nat.{ℕ, zero, suc, _+_, _-_, _<_, _≤_}
 use native.Mathlib.Omega.{arith}
 use lib.Pow.{pow-mono}
-use lib.Dec.{ltb, eqb}
+use lib.Dec.{ltb}
 use lib.IntN.{ℤ, pos, negsuc, natAbs}
 use lib.Signed.{mag}
 use lib.ListN.{length, getD, set, take, drop, length-set, length-drop, length-append, length-take, length-reverse}
 use borrow.Author.Tests.{ltb-true, leb-true, lt-ltb}
 use Rattle.moore.specs.Objects as O
-use Rattle.moore.specs.Objects.{Obj, nat, none, NAT, INT, ADDR, type, natOf, intOf}
+use Rattle.moore.specs.Objects.{Obj, nat, none, NAT, INT, ADDR, natOf, intOf}
 use Rattle.moore.specs.Objects.{negativep, choose}
 use Rattle.moore.specs.Machine.{Ins, call, ret, push-constant, push-local, push-global, pop, pop*, pop-local, pop-global, set-local}
 use Rattle.moore.specs.Machine.{set-global, jump, jump-case, test-nat-and-jump, test-int-and-jump, test-bool-and-jump, no-op, eq}
@@ -23,7 +23,7 @@ use Rattle.moore.specs.Machine.{p-ins-okp, p-ins-step, codeOf, p-settle,
 use Rattle.moore.specs.Proper.{All, count, ProperObj, ProperFrame, ProperFrames, ProperState}
 use Rattle.moore.proofs.Texts.{ProperIns, ends, ProperText}
 use Rattle.moore.proofs.Lists.{all-drop, all-take, all-append, all-reverse, all-set, all-getD, all-inside, all-map}
-use Rattle.moore.proofs.Objects.{clause, clause-one, clause-two, typed, type-only, a-nat, an-int, an-addr, legal-none}
+use Rattle.moore.proofs.Objects.{clause, clause-one, clause-two, typed, a-nat, an-int, an-addr, legal-none}
 use Rattle.moore.proofs.Objects.{area-lengths, legal-lengths}
 use Rattle.moore.proofs.Areas.{fetch-all, deposit-all, deposit-lengths}
 
@@ -132,9 +132,6 @@ module _ (m : Text) (z : List ℕ) (s : State) (i : ProperState m z s) where
   legal-fetch a o =
       fetch-all (ProperObj m (s .areas)) (s .areas) a o (all-getD (All (ProperObj m (s .areas))) (s .areas) a [] (i .area-objects) tt)
       (legal-none m (s .areas))
-
-  pub operand-type : (t n : ℕ) → p-objectp-type t (getD (s .temp) n none) m s ≡ eqb (type (getD (s .temp) n none)) t
-  operand-type t n = type-only t (getD (s .temp) n none) m s (legal-temp n)
 
 -- ---- made objects
 

@@ -5,7 +5,7 @@ use mathlib.Core.List.{List, [], _∷_, _++_, append-assoc, append-nil, reverse,
 use Prim.Native.Nat.{ℕ, zero, suc, _+_, _-_, _*_, _/_, _<_, _≤_}
 use native.Mathlib.Omega.{arith}
 use native.Mathlib.Decide.{ℕ-discrete}
-use lib.ListN.{length, getD, set, take, drop}
+use lib.ListN.{length, getD, take, drop}
 use lib.Seq.{drop-drop}
 use Rattle.scope.specs.declared.Cell.{Cell}
 use Rattle.scope.specs.Cells.{cellAt, cellFrom, free, Bytes}
@@ -171,9 +171,6 @@ cut-words b e n k h p =
           ∙ sym (take-cells (n - k) n b (omega arith));
       same = p .same;
     }
-
-pub store-words : (b e : List ℕ) (n i : ℕ) (c : Cell) → Stored b e i c → i < n → Held b n → Words b e n (set (cells n b) i c)
-store-words b e n i c p h l = p .words n h l
 
 pub words-after : (b d e : List ℕ) (m k : ℕ) (x y : List Cell) → Words b d m x → Words d e k (cells m d ++ y) → Words b e k (x ++ y)
 words-after b d e m k x y p q =

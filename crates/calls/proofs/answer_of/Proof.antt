@@ -1,9 +1,7 @@
+-- `calls::answer_of` meets its contract. Assumes nothing.
 use Rattle.calls.proofs.Laws.{answers}
-use borrow.Author.Needs.{needs}
 use Rattle.calls.proofs.answer_of.Statement.{statement}
 use Rattle.calls.proofs.answer_of.Tie as tie
-use Rattle.calls.proofs.answer_of.Reads as reads
-use Rattle.calls.proofs.answer_of.Lts as lts
 
 returns : tie.Need-returns
 returns c = search answers

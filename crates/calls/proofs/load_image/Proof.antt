@@ -1,16 +1,10 @@
+-- `calls::load_image` meets its contract. Assumes nothing.
 use Rattle.calls.proofs.Laws.{loads}
 use Rattle.states.proofs.Lengths.{sized, bottom-room}
 use Rattle.accept.proofs.Exact.{accepted, accepted-long}
 use borrow.Author.Needs.{needs}
 use Rattle.calls.proofs.load_image.Statement.{statement}
 use Rattle.calls.proofs.load_image.Tie as tie
-use Rattle.calls.proofs.load_image.Reads as reads
-use Rattle.calls.proofs.load_image.Lts as lts
-use Rattle.image.proofs.read_counts.Reads as read-counts-reads
-use Rattle.image.proofs.read_offsets.Reads as read-offsets-reads
-use Rattle.calls.proofs.refused_load.Reads as refused-load-reads
-use Rattle.states.proofs.check_load.Reads as check-load-reads
-use Rattle.states.proofs.load_state.Reads as load-state-reads
 
 read-counts-requires : tie.Need-read-counts-requires
 read-counts-requires c κs = search (accepted-long, needs)

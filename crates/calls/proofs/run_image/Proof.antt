@@ -1,15 +1,9 @@
+-- `calls::run_image` meets its contract. Assumes nothing.
 use Rattle.calls.proofs.Laws.{runs, run-says, run-sized}
 use Rattle.accept.proofs.Exact.{accepted, accepted-long}
 use borrow.Author.Needs.{needs}
 use Rattle.calls.proofs.run_image.Statement.{statement}
 use Rattle.calls.proofs.run_image.Tie as tie
-use Rattle.calls.proofs.run_image.Reads as reads
-use Rattle.calls.proofs.run_image.Lts as lts
-use Rattle.image.proofs.read_counts.Reads as read-counts-reads
-use Rattle.image.proofs.read_offsets.Reads as read-offsets-reads
-use Rattle.calls.proofs.refused_run.Reads as refused-run-reads
-use Rattle.calls.proofs.run_sized.Reads as run-sized-reads
-use Rattle.states.proofs.check_buffers.Reads as check-buffers-reads
 
 read-counts-requires : tie.Need-read-counts-requires
 read-counts-requires c κs = search (accepted-long, needs)

@@ -1,11 +1,8 @@
+-- `calls::run_state` meets its contract. Assumes nothing.
 use Rattle.calls.proofs.Running.{running}
 use borrow.Author.Needs.{needs}
 use Rattle.calls.proofs.run_state.Statement.{statement}
 use Rattle.calls.proofs.run_state.Tie as tie
-use Rattle.calls.proofs.run_state.Reads as reads
-use Rattle.calls.proofs.run_state.Lts as lts
-use Rattle.calls.proofs.answer_of.Reads as answer-of-reads
-use Rattle.runs.proofs.run.Reads as run-reads
 
 run-requires : tie.Need-run-requires
 run-requires c κs = search (running, needs, c .before .before .before .slice-known3 .given, c .before .before .before .before .slice-known2 .given, c .before .before .before .before .before .slice-known .given, c .before .before .before .before .before .before .shared-slice-known .given)

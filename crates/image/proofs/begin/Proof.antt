@@ -1,8 +1,7 @@
+-- `image::begin` meets its contract. Assumes nothing.
 use borrow.Author.Needs.{needs}
 use Rattle.image.proofs.begin.Statement.{statement}
 use Rattle.image.proofs.begin.Tie as tie
-use Rattle.image.proofs.begin.Reads as reads
-use Rattle.image.proofs.begin.Lts as lts
 
 enum-told : tie.Need-enum-told
 enum-told c = search needs

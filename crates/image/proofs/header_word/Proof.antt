@@ -1,10 +1,8 @@
+-- `image::header_word` meets its contract. Assumes nothing.
 use Rattle.scope.specs.Image.{word}
 use borrow.Author.Needs.{needs}
 use Rattle.image.proofs.header_word.Statement.{statement}
 use Rattle.image.proofs.header_word.Tie as tie
-use Rattle.image.proofs.header_word.Reads as reads
-use Rattle.image.proofs.header_word.Lts as lts
-use Rattle.cells.proofs.get32.Reads as get32-reads
 
 mul-get32 : tie.Need-mul-get32
 mul-get32 c = search needs

@@ -1,10 +1,8 @@
+-- `image::in_area` meets its contract. Assumes nothing.
 use Rattle.image.proofs.Rows.{named}
 use borrow.Author.Needs.{needs}
 use Rattle.image.proofs.in_area.Statement.{statement}
 use Rattle.image.proofs.in_area.Tie as tie
-use Rattle.image.proofs.in_area.Reads as reads
-use Rattle.image.proofs.in_area.Lts as lts
-use Rattle.image.proofs.area_field.Reads as area-field-reads
 
 area-field-requires : tie.Need-area-field-requires
 area-field-requires c κs = search needs

@@ -1,10 +1,8 @@
+-- `image::in_program` meets its contract. Assumes nothing.
 use Rattle.image.proofs.Rows.{named}
 use borrow.Author.Needs.{needs}
 use Rattle.image.proofs.in_program.Statement.{statement}
 use Rattle.image.proofs.in_program.Tie as tie
-use Rattle.image.proofs.in_program.Reads as reads
-use Rattle.image.proofs.in_program.Lts as lts
-use Rattle.image.proofs.program_field.Reads as program-field-reads
 
 program-field-requires : tie.Need-program-field-requires
 program-field-requires c κs = search needs

@@ -1,11 +1,8 @@
+-- `image::instruction` meets its contract. Assumes nothing.
 use Rattle.image.proofs.Records.{records}
 use borrow.Author.Needs.{needs}
 use Rattle.image.proofs.instruction.Statement.{statement}
 use Rattle.image.proofs.instruction.Tie as tie
-use Rattle.image.proofs.instruction.Reads as reads
-use Rattle.image.proofs.instruction.Lts as lts
-use Rattle.cells.proofs.get16.Reads as get16-reads
-use Rattle.image.proofs.records_at.Reads as records-at-reads
 
 records-at-requires : tie.Need-records-at-requires
 records-at-requires c κs = search needs

@@ -1,10 +1,8 @@
+-- `image::is_object` meets its contract. Assumes nothing.
 use Rattle.image.proofs.Rows.{rows}
 use borrow.Author.Needs.{needs}
 use Rattle.image.proofs.is_object.Statement.{statement}
 use Rattle.image.proofs.is_object.Tie as tie
-use Rattle.image.proofs.is_object.Reads as reads
-use Rattle.image.proofs.is_object.Lts as lts
-use Rattle.image.proofs.row.Reads as row-reads
 
 row-requires : tie.Need-row-requires
 row-requires c κs = search needs

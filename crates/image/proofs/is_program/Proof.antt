@@ -1,9 +1,7 @@
+-- `image::is_program` meets its contract. Assumes nothing.
 use Rattle.scope.proofs.Bools.{clauses}
-use borrow.Author.Needs.{needs}
 use Rattle.image.proofs.is_program.Statement.{statement}
 use Rattle.image.proofs.is_program.Tie as tie
-use Rattle.image.proofs.is_program.Reads as reads
-use Rattle.image.proofs.is_program.Lts as lts
 
 returns : tie.Need-returns
 returns c = search clauses

@@ -1,9 +1,7 @@
+-- `image::is_truth` meets its contract. Assumes nothing.
 use Rattle.scope.proofs.Bools.{clauses}
-use borrow.Author.Needs.{needs}
 use Rattle.image.proofs.is_truth.Statement.{statement}
 use Rattle.image.proofs.is_truth.Tie as tie
-use Rattle.image.proofs.is_truth.Reads as reads
-use Rattle.image.proofs.is_truth.Lts as lts
 
 returns : tie.Need-returns
 returns c = search clauses

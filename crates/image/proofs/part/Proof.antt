@@ -1,9 +1,8 @@
+-- `image::part` meets its contract. Assumes nothing.
 use native.Mathlib.Nat.{add-sub-cancel-left}
 use borrow.Author.Needs.{needs}
 use Rattle.image.proofs.part.Statement.{statement}
 use Rattle.image.proofs.part.Tie as tie
-use Rattle.image.proofs.part.Reads as reads
-use Rattle.image.proofs.part.Lts as lts
 
 add-end : tie.Need-add-end
 add-end c = search needs

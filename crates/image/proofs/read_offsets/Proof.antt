@@ -1,9 +1,7 @@
+-- `image::read_offsets` meets its contract. Assumes nothing.
 use borrow.Author.Needs.{needs}
 use Rattle.image.proofs.read_offsets.Statement.{statement}
 use Rattle.image.proofs.read_offsets.Tie as tie
-use Rattle.image.proofs.read_offsets.Reads as reads
-use Rattle.image.proofs.read_offsets.Lts as lts
-use Rattle.image.proofs.wide_word.Reads as wide-word-reads
 
 wide-word-requires : tie.Need-wide-word-requires
 wide-word-requires c κs = search needs

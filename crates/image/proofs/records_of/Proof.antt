@@ -17,7 +17,7 @@ use prog.Wp.{Heap, Calls, Loops, WpFn, Tables}
 use ghost.Atoms.{Atoms, sem}
 use contract.Monad.{Fun}
 use contract.Running.{givenOf, tables, tablesOf}
-use types.Kit.{Given, Item, ‵, raw, _⊛_, given, ⋆, _$_, _∵_, !, qed, by, move, drop, use0, use1, use2, split, join, learn, fsplit, fjoin}
+use types.Kit.{Given, Item, ‵, raw, _⊛_, given, ⋆, _$_, _∵_, !, qed, by, move, drop, use0, use1, use2, split, learn, fsplit, fjoin}
 use types.Kit.{suffices, frame, done}
 use types.Part.{whole, sub, look-in}
 use types.Run.{look, init, forget, stop, fld, from, load, of-opd, and-then, no-more, assigns, land, returns}

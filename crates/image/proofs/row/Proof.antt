@@ -1,13 +1,8 @@
+-- `image::row` meets its contract. Assumes nothing.
 use Rattle.image.proofs.Rows.{rows}
 use borrow.Author.Needs.{needs}
 use Rattle.image.proofs.row.Statement.{statement}
 use Rattle.image.proofs.row.Tie as tie
-use Rattle.image.proofs.row.Reads as reads
-use Rattle.image.proofs.row.Lts as lts
-use Rattle.image.proofs.in_area.Reads as in-area-reads
-use Rattle.image.proofs.in_program.Reads as in-program-reads
-use Rattle.image.proofs.is_program.Reads as is-program-reads
-use Rattle.image.proofs.is_truth.Reads as is-truth-reads
 
 is-truth-requires : tie.Need-is-truth-requires
 is-truth-requires c κs = search needs

@@ -1,8 +1,7 @@
+-- `image::size` meets its contract. Assumes nothing.
 use borrow.Author.Needs.{needs}
 use Rattle.image.proofs.size.Statement.{statement}
 use Rattle.image.proofs.size.Tie as tie
-use Rattle.image.proofs.size.Reads as reads
-use Rattle.image.proofs.size.Lts as lts
 
 enum-told : tie.Need-enum-told
 enum-told c = search needs

@@ -1,10 +1,8 @@
+-- `image::span` meets its contract. Assumes nothing.
 use native.Mathlib.Omega.{arith}
 use borrow.Author.Needs.{needs}
 use Rattle.image.proofs.span.Statement.{statement}
 use Rattle.image.proofs.span.Tie as tie
-use Rattle.image.proofs.span.Reads as reads
-use Rattle.image.proofs.span.Lts as lts
-use Rattle.image.proofs.size.Reads as size-reads
 
 size-requires : tie.Need-size-requires
 size-requires c κs = search needs

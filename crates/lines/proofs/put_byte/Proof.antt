@@ -1,3 +1,4 @@
+-- `lines::put_byte` meets its contract. Assumes nothing.
 use Rattle.lines.proofs.Laws.{wrote-byte}
 use borrow.Author.Needs.{needs}
 use Rattle.lines.proofs.put_byte.Statement.{statement}

@@ -1,14 +1,9 @@
+-- `piton::piton_load` meets its contract. Assumes nothing.
 use Rattle.calls.proofs.Laws.{said-fine}
-use mathlib.Core.Path.{sym, _∙_}
 use Rattle.calls.proofs.Laws.{loads}
 use borrow.Author.Needs.{needs}
 use Rattle.piton.proofs.piton_load.Statement.{statement}
 use Rattle.piton.proofs.piton_load.Tie as tie
-use Rattle.piton.proofs.piton_load.Reads as reads
-use Rattle.piton.proofs.piton_load.Lts as lts
-use Rattle.accept.proofs.check.Reads as check-reads
-use Rattle.calls.proofs.load_image.Reads as load-image-reads
-use Rattle.calls.proofs.refused_load.Reads as refused-load-reads
 
 check-requires : tie.Need-check-requires
 check-requires c κs = search needs

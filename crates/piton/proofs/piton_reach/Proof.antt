@@ -1,11 +1,8 @@
+-- `piton::piton_reach` meets its contract. Assumes nothing.
 use Rattle.calls.proofs.Laws.{reports, said-fine}
 use borrow.Author.Needs.{needs}
 use Rattle.piton.proofs.piton_reach.Statement.{statement}
 use Rattle.piton.proofs.piton_reach.Tie as tie
-use Rattle.piton.proofs.piton_reach.Reads as reads
-use Rattle.piton.proofs.piton_reach.Lts as lts
-use Rattle.accept.proofs.check.Reads as check-reads
-use Rattle.calls.proofs.reach_image.Reads as reach-image-reads
 
 check-requires : tie.Need-check-requires
 check-requires c κs = search needs

@@ -1,12 +1,8 @@
+-- `piton::piton_run` meets its contract. Assumes nothing.
 use Rattle.calls.proofs.Laws.{runs, said-fine}
 use borrow.Author.Needs.{needs}
 use Rattle.piton.proofs.piton_run.Statement.{statement}
 use Rattle.piton.proofs.piton_run.Tie as tie
-use Rattle.piton.proofs.piton_run.Reads as reads
-use Rattle.piton.proofs.piton_run.Lts as lts
-use Rattle.accept.proofs.check.Reads as check-reads
-use Rattle.calls.proofs.refused_run.Reads as refused-run-reads
-use Rattle.calls.proofs.run_image.Reads as run-image-reads
 
 check-requires : tie.Need-check-requires
 check-requires c κs = search needs

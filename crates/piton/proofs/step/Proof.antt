@@ -1,10 +1,8 @@
+-- `piton::step` meets its contract. Assumes nothing.
 use Rattle.calls.proofs.Laws.{run-steps}
 use borrow.Author.Needs.{needs}
 use Rattle.piton.proofs.step.Statement.{statement}
 use Rattle.piton.proofs.step.Tie as tie
-use Rattle.piton.proofs.step.Reads as reads
-use Rattle.piton.proofs.step.Lts as lts
-use Rattle.piton.proofs.piton_run.Reads as piton-run-reads
 
 piton-run-requires : tie.Need-piton-run-requires
 piton-run-requires c κs = search needs

@@ -1,3 +1,4 @@
+-- `piton_run::asked` meets its contract. Assumes nothing.
 use Rattle.piton_run.proofs.Running.{asked-none, asked-right}
 use borrow.Author.Needs.{needs}
 use Rattle.piton_run.proofs.asked.Statement.{statement}

@@ -1,3 +1,4 @@
+-- `piton_run::load_and_run` meets its contract. Assumes nothing.
 use Rattle.piton_run.proofs.Running.{loaded-ran, not-loaded}
 use borrow.Author.Needs.{needs}
 use Rattle.piton_run.proofs.load_and_run.Statement.{statement}

@@ -1,3 +1,4 @@
+-- `piton_run::put_cell` meets its contract. Assumes nothing.
 use Rattle.piton_run.proofs.Lines.{wrote-cell}
 use borrow.Author.Needs.{needs}
 use Rattle.piton_run.proofs.put_cell.Statement.{statement}

@@ -1,3 +1,4 @@
+-- `piton_run::put_first` meets its contract. Assumes nothing.
 use Rattle.piton_run.proofs.Lines.{wrote-first}
 use borrow.Author.Needs.{needs}
 use Rattle.piton_run.proofs.put_first.Statement.{statement}

@@ -1,3 +1,4 @@
+-- `piton_run::put_run` meets its contract. Assumes nothing.
 use Rattle.piton_run.proofs.Lines.{told-refusal, told-run}
 use borrow.Author.Needs.{needs}
 use Rattle.piton_run.proofs.put_run.Statement.{statement}

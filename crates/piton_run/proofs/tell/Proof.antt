@@ -1,3 +1,4 @@
+-- `piton_run::tell` meets its contract. Assumes nothing.
 use Rattle.piton_run.proofs.Running.{cut, cut-short, fitting}
 use Rattle.piton_run.proofs.Lines.{wrote-too-long}
 use borrow.Author.Needs.{needs}

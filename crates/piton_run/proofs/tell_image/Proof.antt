@@ -1,3 +1,4 @@
+-- `piton_run::tell_image` meets its contract. Assumes nothing.
 use Rattle.piton_run.proofs.Lines.{wrote-whole}
 use borrow.Author.Needs.{needs}
 use Rattle.piton_run.proofs.tell_image.Statement.{statement}

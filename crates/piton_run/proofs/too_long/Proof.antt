@@ -1,11 +1,8 @@
+-- `piton_run::too_long` meets its contract. Assumes nothing.
 use borrow.Author.Needs.{needs}
 use Rattle.piton_run.proofs.Running.{refused-long}
 use Rattle.piton_run.proofs.too_long.Statement.{statement}
 use Rattle.piton_run.proofs.too_long.Tie as tie
-use Rattle.piton_run.proofs.too_long.Reads as reads
-use Rattle.piton_run.proofs.too_long.Lts as lts
-use Rattle.calls.proofs.refused_load.Reads as refused-load-reads
-use Rattle.calls.proofs.refused_run.Reads as refused-run-reads
 
 refused-load-requires : tie.Need-refused-load-requires
 refused-load-requires c κs = search needs

@@ -1,5 +1,4 @@
 use Rattle.accept.proofs.Codes.{endings}
-use borrow.Author.Needs.{needs}
 use Rattle.accept.proofs.instructions.may_end.Statement.{statement}
 use Rattle.accept.proofs.instructions.may_end.Tie as tie
 use Rattle.accept.proofs.instructions.may_end.Reads as reads

@@ -1,5 +1,4 @@
 use Rattle.scope.proofs.Bools.{clauses}
-use borrow.Author.Needs.{needs}
 use Rattle.accept.proofs.records.formals_ok.Statement.{statement}
 use Rattle.accept.proofs.records.formals_ok.Tie as tie
 use Rattle.accept.proofs.records.formals_ok.Reads as reads

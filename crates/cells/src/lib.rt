@@ -1,4 +1,4 @@
-// Little-endian numbers and cells in lent bytes. Nothing above this crate looks at bytes.
+// Little-endian numbers and cells in lent bytes. Nothing above this crate takes a number or a cell apart.
 ghost use mathlib.Core.Path.{_≡_};
 ghost use Prim.Native.Nat.{_+_, _*_, _≤_};
 ghost use lib.ListN.{length};

@@ -75,11 +75,11 @@ module _ (m : Text) (s : State) (running : s .psw ≡ run) where
   settled (suc n) h = refl
 
   -- Where the precondition does not hold, the psw alone changes, to the error of the instruction's code.
-  pub error-alone : (p-ins-okp here m s ≡ 0 → ⊥) → p-step m s ≡ p-halt s (error (codeOf here))
+  pub error-alone : (p-ins-okp (insAt m (s .prog) (s .off)) m s ≡ 0 → ⊥) → p-step m s ≡ p-halt s (error (codeOf (insAt m (s .prog) (s .off))))
   error-alone h = steps ∙ settled (p-ins-okp here m s) h
 
   -- A step ends in error exactly when the precondition does not hold.
-  pub error-exactly : ((c : ℕ) × (p-step m s .psw ≡ error c)) ↔ (p-ins-okp here m s ≡ 0 → ⊥)
+  pub error-exactly : ((c : ℕ) × (p-step m s .psw ≡ error c)) ↔ (p-ins-okp (insAt m (s .prog) (s .off)) m s ≡ 0 → ⊥)
   unfolding p-settle
   error-exactly = (
     λ e h. subst Calm (sym (ap (λ (t : State). t .psw) (steps ∙ ap (λ (n : ℕ). p-settle n here m s) h)) ∙ e .1) (steps-calmly here m s),

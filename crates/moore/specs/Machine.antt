@@ -8,7 +8,7 @@ use Rattle.moore.specs.Objects.{Obj, nat, int, bitv, bool, addr, pc, sub
 use Rattle.moore.specs.Objects.{natOf, intOf, boolOf, area-name, offset, equal, small-naturalp, small-integerp, negativep}
 use Rattle.moore.specs.Objects.{choose, p-test-natp, p-test-intp, p-test-boolp}
 
-pub data Ins : Type 0 where
+pub data Ins : Type 0 where  -- a test's two numbers are its condition and the place to jump to
   call : ℕ → Ins
   ret : Ins
   push-constant : Obj → Ins
@@ -120,7 +120,8 @@ abbrev pub two : ℕ → ℕ → Text → State → ℕ → ℕ  -- top of type 
 two t u m s rest = need (has 2 s) 1 (need (p-objectp-type t (top s) m s && p-objectp-type u (top1 s) m s) 2 rest)
 
 unfoldable pub p-ins-okp : Ins → Text → State → ℕ  -- P-INS-OKP (003 p. 32): each line is the P-OPCODE-OKP of its page
-p-ins-okp (call p) m s = need (leb (program m p .formals) (length (s .temp))) 1 (need (leb (ctrl-size (call-frame m p s ∷ s .ctrl)) (m .max-ctrl)) 5 0)  -- 003 p. 13
+p-ins-okp (call p) m s =
+    need (leb (program m p .formals) (length (s .temp))) 1 (need (leb (ctrl-size (call-frame m p s ∷ s .ctrl)) (m .max-ctrl)) 5 0)  -- 003 p. 13
 p-ins-okp ret m s = 0  -- 003 p. 13
 p-ins-okp (push-constant c) m s = need (roomy m s) 4 0  -- 003 p. 14
 p-ins-okp (push-local i) m s = need (roomy m s) 4 0  -- 003 p. 15
@@ -178,7 +179,8 @@ p-return (f ∷ []) s = p-halt s halt
 p-return (f ∷ g ∷ fs) s = record { prog = f .prog; off = f .off; ctrl = g ∷ fs; temp = s .temp; areas = s .areas; psw = run }
 
 unfoldable pub p-ins-step : Ins → Text → State → State  -- P-INS-STEP (003 p. 34): each line is the P-OPCODE-STEP of its page
-p-ins-step (call p) m s = record { prog = p; off = 0; ctrl = call-frame m p s ∷ s .ctrl; temp = drop (program m p .formals) (s .temp); areas = s .areas; psw = run }  -- 003 p. 13
+p-ins-step (call p) m s =  -- 003 p. 13
+    record { prog = p; off = 0; ctrl = call-frame m p s ∷ s .ctrl; temp = drop (program m p .formals) (s .temp); areas = s .areas; psw = run }
 p-ins-step ret m s = p-return (s .ctrl) s  -- 003 p. 13
 p-ins-step (push-constant c) m s = go (c ∷ s .temp) s  -- 003 p. 14
 p-ins-step (push-local i) m s = go (local-value i (s .ctrl) ∷ s .temp) s  -- 003 p. 15
@@ -204,16 +206,16 @@ p-ins-step deposit m s = onward (s .ctrl) (drop 2 (s .temp)) (deposit-adp (top1 
 p-ins-step add-int m s = go (int (intOf (top1 s) +ℤ intOf (top s)) ∷ drop 2 (s .temp)) s  -- 000 p. 102
 p-ins-step sub-int m s = go (int (intOf (top1 s) -ℤ intOf (top s)) ∷ drop 2 (s .temp)) s  -- 003 p. 25
 p-ins-step neg-int m s = go (int (negℤ (intOf (top s))) ∷ drop 1 (s .temp)) s  -- 003 p. 27
-p-ins-step lt-int m s = go (bool (ltZ (intOf (top1 s)) (intOf (top s))) ∷ drop 2 (s .temp)) s  -- 003 p. 27
+p-ins-step lt-int m s = go (bool (ltZ (intOf (top1 s)) (intOf (top s))) ∷ drop 2 (s .temp)) s  -- 003 p. 28
 p-ins-step int-to-nat m s = go (nat (natAbs (intOf (top s))) ∷ drop 1 (s .temp)) s  -- 003 p. 28
-p-ins-step add-nat m s = go (nat (natOf (top1 s) + natOf (top s)) ∷ drop 2 (s .temp)) s  -- 003 p. 28
-p-ins-step add1-nat m s = go (nat (natOf (top s) + 1) ∷ drop 1 (s .temp)) s  -- 000 p. 105
+p-ins-step add-nat m s = go (nat (natOf (top1 s) + natOf (top s)) ∷ drop 2 (s .temp)) s  -- 003 p. 29
+p-ins-step add1-nat m s = go (nat (natOf (top s) + 1) ∷ drop 1 (s .temp)) s  -- 000 p. 106
 p-ins-step sub-nat m s = go (nat (natOf (top1 s) - natOf (top s)) ∷ drop 2 (s .temp)) s  -- 003 p. 29
 p-ins-step sub1-nat m s = go (nat (natOf (top s) - 1) ∷ drop 1 (s .temp)) s  -- 003 p. 30
 p-ins-step lt-nat m s = go (bool (ltb (natOf (top1 s)) (natOf (top s))) ∷ drop 2 (s .temp)) s  -- 000 p. 118
 p-ins-step or-bool m s = go (bool (boolOf (top1 s) || boolOf (top s)) ∷ drop 2 (s .temp)) s  -- 003 p. 30
 p-ins-step and-bool m s = go (bool (boolOf (top1 s) && boolOf (top s)) ∷ drop 2 (s .temp)) s  -- 003 p. 31
-p-ins-step not-bool m s = go (bool (not (boolOf (top s))) ∷ drop 1 (s .temp)) s  -- 003 p. 31
+p-ins-step not-bool m s = go (bool (not (boolOf (top s))) ∷ drop 1 (s .temp)) s  -- 003 p. 32
 
 -- ---- the machine
 
@@ -255,20 +257,20 @@ codeOf or-bool = 34
 codeOf and-bool = 35
 codeOf not-bool = 36
 
-unfoldable pub p-settle : ℕ → Ins → Text → State → State  -- P-STEP1 (003 p. 36): where a precondition does not hold, the psw alone changes
+unfoldable pub p-settle : ℕ → Ins → Text → State → State  -- by the clause that does not hold
 p-settle zero i m s = p-ins-step i m s
 p-settle (suc k) i m s = p-halt s (error (codeOf i))
 
-unfoldable pub p-step1 : Ins → Text → State → State
+unfoldable pub p-step1 : Ins → Text → State → State  -- P-STEP1 (003 p. 36): where the precondition does not hold, the psw alone changes
 p-step1 i m s = p-settle (p-ins-okp i m s) i m s
 
 unfoldable pub insAt : Text → ℕ → ℕ → Ins  -- P-CURRENT-INSTRUCTION (003 p. 10)
 insAt m p o = getD (program m p .code) o ret
 
-unfoldable pub p-step-by : Psw → Text → State → State  -- P-STEP (003 p. 36): nothing happens unless the psw is RUN
+unfoldable pub p-step-by : Psw → Text → State → State  -- by the psw
 p-step-by w m s = elim w [ run ↦ p-step1 (insAt m (s .prog) (s .off)) m s | halt ↦ s | error c ↦ s ]
 
-unfoldable pub p-step : Text → State → State
+unfoldable pub p-step : Text → State → State  -- P-STEP (003 p. 36): nothing happens unless the psw is RUN
 p-step m s = p-step-by (s .psw) m s
 
 unfoldable pub P : Text → State → ℕ → State  -- P (003 p. 36): n steps

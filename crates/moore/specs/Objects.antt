@@ -80,7 +80,7 @@ equal (addr a o) y = eqb a (area-name y) && eqb o (offset y)
 equal (pc p o) y = eqb p (area-name y) && eqb o (offset y)
 equal (subr p) y = eqb p (area-name y)
 
--- SMALL-NATURALP, SMALL-INTEGERP: what a word of w bits holds (`mag z` is n for n and for `negsuc n`, which is -(n + 1))
+-- SMALL-NATURALP, SMALL-INTEGERP: what a word of w bits holds (`mag z` is n for `pos n` and for `negsuc n`, which is -(n + 1))
 abbrev pub small-naturalp : ℕ → ℕ → Bool
 small-naturalp n w = ltb n (2 ^ w)
 

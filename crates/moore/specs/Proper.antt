@@ -1,4 +1,5 @@
 -- Proper p-states (000 pp. 140 to 150, PROPER-P-STATEP), with 01's rules for the bottom frame and the error code; z: the areas' lengths.
+-- What PROPER-P-STATEP asks of the program segment, the word size and the limits is no matter of a state: an accepted image's text has it.
 use mathlib.Core.{Path.{_≡_}, List.{List, [], _∷_, map}, Bool.{true}}
 use Prim.Native.Nat.{ℕ, _+_, _<_, _≤_}
 use lib.ListN.{length}

@@ -6,6 +6,7 @@ use native.Mathlib.Omega.{arith}
 use native.Mathlib.Numerals.{add-one}
 use borrow.Author.Tests.{eq-eqb, ne-eqb, lt-leb}
 use lib.ListN.{length, take, length-take}
+use Rattle.io.specs.Counts.{Counts}
 use Rattle.moore.specs.Objects.{choose}
 use Rattle.moore.specs.Machine.{State, Psw, run, halt, error, P}
 use Rattle.scope.specs.declared.Cell.{Cell}
@@ -21,7 +22,7 @@ use Rattle.cells.proofs.Laws.{cells-none, cells-snoc, length-cells}
 use Rattle.lines.specs.Written.{Wrote, numberThen, fourThen}
 use Rattle.lines.proofs.Laws.{wrote-then}
 use Rattle.calls.specs.Answers.{refusedRun}
-use Rattle.piton_run.specs.Whole.{RanWhole, refused, ran, firstLine, cellLine, linesOf, told, Tells}
+use Rattle.piton_run.specs.Whole.{RanWhole, refused, ran, firstLine, cellLine, linesOf, told}
 
 -- ---- lines of numbers, by fours
 
@@ -89,14 +90,10 @@ unfolding told choose
 told-run o o₁ o₂ d q m r s x y = rw (ne-eqb (q .registers .status) 3 s) (wrote-then x y)
 
 -- at the start of a buffer stands what was written there
-tells : (b t o o′ : List ℕ) (r : ℕ) → Writes b t → Wrote o 0 t o′ r → Tells b o′ r
+tells : (b t o o′ : List ℕ) (r : ℕ) → Writes b t → Wrote o 0 t o′ r → Counts r o′ × Writes b (take r o′)
 tells b t o o′ r w x =
-    record {
-      counts =
-          let e : r ≡ length (take r o′) = omega (arith, x .end, ap length (x .written)) in
-          (omega (arith, length-take r o′), e);
-      writes = subst (Writes b) (sym (x .written)) w;
-    }
+    let e : r ≡ length (take r o′) = omega (arith, x .end, ap length (x .written)) in
+    ((omega (arith, length-take r o′), e), subst (Writes b) (sym (x .written)) w)
 
 refusal-line : (n p : ℕ) → firstLine (refusedRun n p noRegisters) ≡ inLines (printedRefusal n p)
 unfolding firstLine refusedRun
@@ -125,11 +122,11 @@ whole-writes b q d (ran e count answer place registers areas) =
     λ i. record { answer = answer i; place = place i; steps = q .steps; registers = registers i } in
     subst (Writes b) (sym (ap (λ (y : Ran). told y d) x ∙ run-lines (q .steps) s d areas)) (Printing.ran e count)
 
-pub wrote-whole : (b d o o′ : List ℕ) (q : Ran) (r : ℕ) → RanWhole b q d → Wrote o 0 (told q d) o′ r → Tells b o′ r
+pub wrote-whole : (b d o o′ : List ℕ) (q : Ran) (r : ℕ) → RanWhole b q d → Wrote o 0 (told q d) o′ r → Counts r o′ × Writes b (take r o′)
 wrote-whole b d o o′ q r w x = tells b (told q d) o o′ r (whole-writes b q d w) x
 
 pub wrote-too-long : (b o o′ : List ℕ) (q : Ran) (r : ℕ) → 65536 < length b → q ≡ refusedRun 11 0 noRegisters → Wrote o 0 (firstLine q) o′ r
-    → Tells b o′ r
+    → Counts r o′ × Writes b (take r o′)
 unfolding inputSays choose
 wrote-too-long b o o′ q r l e x =
     let says : inputSays b ≡ Refused 11 0 = rw (lt-leb (length b) 65536 l) in

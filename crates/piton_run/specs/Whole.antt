@@ -3,8 +3,7 @@ use mathlib.Core.Path.{_≡_}
 use mathlib.Core.List.{List, [], _∷_, _++_}
 use Prim.Native.Nat.{ℕ, _*_, _/_, _≤_}
 use lib.Dec.{eqb}
-use lib.ListN.{length, take}
-use Rattle.io.specs.Counts.{Counts}
+use lib.ListN.{length}
 use Rattle.moore.specs.Objects.{choose}
 use Rattle.moore.specs.Machine.{P}
 use Rattle.scope.specs.declared.Cell.{Cell}
@@ -14,7 +13,7 @@ use Rattle.scope.specs.Image.{dataCells, controlLimit, temporaryLimit}
 use Rattle.scope.specs.Checks.{imageSays}
 use Rattle.scope.specs.Holding.{textOf, initial, registersOf, dataWords}
 use Rattle.scope.specs.Calls.{Count, answerOf, noRegisters}
-use Rattle.scope.specs.Printing.{cellLines, line, inLines, budget, inputSays, Writes}
+use Rattle.scope.specs.Printing.{cellLines, line, inLines, budget, inputSays}
 use Rattle.cells.specs.Rows.{cells}
 use Rattle.cells.specs.Rows.{Sized}
 use Rattle.calls.specs.Answers.{refusedRun}
@@ -61,8 +60,3 @@ linesOf cs = inLines (cellLines 0 cs)
 -- status 3 is that of a refusal
 unfoldable pub told : Ran → List ℕ → List ℕ
 told r d = choose (eqb (r .registers .status) 3) (firstLine r) (firstLine r ++ linesOf (cells (length d / 8) d))
-
--- the first n bytes of o are what is written after the input b
-pub record Tells (b o : List ℕ) (n : ℕ) : Type 0 where
-  pub counts : Counts n o
-  pub writes : Writes b (take n o)

@@ -1,13 +1,15 @@
 // The run program: reads an image from standard input, loads and runs it, and prints what came of it.
 ghost use mathlib.Core.Path.{_≡_};
 ghost use Prim.Native.Nat.{_+_, _*_, _/_, _≤_, _<_};
-ghost use lib.ListN.{length};
+ghost use lib.ListN.{length, take};
+ghost use Rattle.io.specs.Counts.{Counts};
 ghost use Rattle.scope.specs.Cells.{cellAt};
 ghost use Rattle.scope.specs.Calls.{noRegisters};
+ghost use Rattle.scope.specs.Printing.{Writes};
 ghost use Rattle.cells.specs.Rows.{cells};
 ghost use Rattle.lines.specs.Written.{Wrote};
 ghost use Rattle.calls.specs.Answers.{refusedRun};
-ghost use Rattle.piton_run.specs.Whole.{BytesFor, Asked, Fitting, RanWhole, Tells, firstLine, cellLine, linesOf, told};
+ghost use Rattle.piton_run.specs.Whole.{BytesFor, Asked, Fitting, RanWhole, firstLine, cellLine, linesOf, told};
 use scope::Ran;
 
 const BUDGET: u32 = 1000000;
@@ -156,7 +158,7 @@ fn tell_image(
 ) -> usize
     requires { ⌜ (length (now image) ≤ 65536) × Fitting (now image) (now areas) (now temporary) (now control)
         × (length (now areas) ≤ 16384) × (90200 ≤ length (now out)) ⌝ }
-    ensures { λ r. ⌜ Tells (now (image .entry)) (now (out .exit)) r ⌝ }
+    ensures { λ r. ⌜ Counts r (now (out .exit)) × Writes (now (image .entry)) (take r (now (out .exit))) ⌝ }
 {
     let ran = load_and_run(image, areas, temporary, control);
     put_run(out, ran, areas)
@@ -180,7 +182,7 @@ fn tell(
 ) -> usize
     requires { ⌜ (16384 ≤ length (now areas)) × (8192 ≤ length (now temporary)) × (16384 ≤ length (now control))
         × (90200 ≤ length (now out)) ⌝ }
-    ensures { λ r. ⌜ Tells (now (input .entry)) (now (out .exit)) r ⌝ }
+    ensures { λ r. ⌜ Counts r (now (out .exit)) × Writes (now (input .entry)) (take r (now (out .exit))) ⌝ }
 {
     if input.len() <= MOST_INPUT {
         let n = asked(input);

@@ -98,7 +98,7 @@ pub record Reports (b : List ℕ) (r : Registers) (d t c k : List ℕ) (out : Sa
   pub refused : (n p : ℕ) → said ≡ Refused n p → k′ ≡ k
   pub done : said ≡ Fine → (s : State) → Keeps b r d t c s → Report (textOf b) s k′
 
--- one step; "on anything not accepted" nothing changes
+-- one step; on anything that a run would refuse nothing changes
 pub record Steps (b : List ℕ) (r : Registers) (d t c : List ℕ) (r′ : Registers) (d′ t′ c′ : List ℕ) : Type 0 where
   pub said : Checked
   pub says : StateSays (runSays b (length d) (length t) (length c)) b r d t c said

@@ -76,7 +76,7 @@ dataCellAt b k = cellFrom b (word b 10 + 8 * k)
 -- ---- operand kinds: "A table over all 256 code bytes gives each its operand kind, and kind zero exactly for 0 and 37 to 255."
 --   1 none   2 a program   3 a constant   4 a local   5 an area   6 a number   7 a place to jump to   8 the first of b constants
 --   9 a place, under one of two conditions   10 a place, under one of six
-unfoldable pub kindOf : ℕ → ℕ  -- tens of the code run down; no other code has a kind
+unfoldable pub kindOf : ℕ → ℕ  -- ten codes to a row; no other code has a kind
 kindOf code =
     getD
     (0 ∷ 2 ∷ 1 ∷ 3 ∷ 4 ∷ 5 ∷ 1 ∷ 6 ∷ 4 ∷ 5

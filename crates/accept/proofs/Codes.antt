@@ -12,11 +12,12 @@ use lib.Seq.{getD-set-same, getD-set-other}
 use Rattle.scope.specs.declared.Cell.{Cell}
 use Rattle.scope.specs.declared.Instruction.{Instruction}
 use Rattle.scope.specs.declared.Checked.the-variants.{Fine, Refused}
-use Rattle.scope.specs.Image.{constants, constantAt, instructionAt, operandBound, kindOf}
+use Rattle.scope.specs.Image.{constants, constantAt, instructionAt, operandBound}
 use Rattle.scope.specs.Checks.{firstFailing, everyCase, ends, instructionOk, codeTests}
 use Rattle.scope.proofs.Bools.{clash, and-both, and-le, and-gt, clauses}
 use Rattle.image.specs.declared.Counts.{Counts}
 use Rattle.image.specs.Laid.{Counted}
+use Rattle.kinds.specs.Kinds.{Kinds}
 use Rattle.accept.specs.declared.instructions.Own.{Own}
 use Rattle.accept.specs.Facts.{Passing, caseAt, RunAt, RunsFrom, Owns, boundBy, kindOk, partsOk}
 use Rattle.accept.proofs.Walks.{passing-start, passing-next, passing-stop, passing-over}
@@ -206,10 +207,10 @@ pub past-constants : (b : List ℕ) (n : Counts) (x : ℕ) (rest : Bool) → Cou
 past-constants b n x rest k h = and-gt x (constants b) rest (omega (arith, k .constants-are))
 
 -- a kind that was looked up
-pub by-kind : (b : List ℕ) (n : Counts) (q : Own) (o : ℕ) (i : Instruction) (kind : ℕ) (r : Bool) → kind ≡ kindOf (i .code)
-    → r ≡ kindOk b n q o i kind → r ≡ partsOk b n q o i
+pub by-kind : (b : List ℕ) (n : Counts) (q : Own) (o : ℕ) (i : Instruction) (table : List ℕ) (r : Bool) → Kinds table → i .code < 256
+    → r ≡ kindOk b n q o i (getD table (i .code) 0) → r ≡ partsOk b n q o i
 unfolding partsOk
-by-kind b n q o i kind r e h = h ∙ ap (kindOk b n q o i) e
+by-kind b n q o i table r t l h = h ∙ ap (kindOk b n q o i) (t .right (i .code) l)
 
 -- ---- the instructions of a program
 

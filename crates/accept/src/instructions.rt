@@ -9,6 +9,7 @@ ghost use Rattle.scope.specs.Image.{programs, constants};
 ghost use Rattle.scope.specs.Checks.{firstFailing};
 ghost use Rattle.scope.specs.Checks.{casesOk, ends, codeTests};
 ghost use Rattle.image.specs.Laid.{Laid, Counted};
+ghost use Rattle.kinds.specs.Kinds.{Kinds};
 ghost use Rattle.accept.specs.Facts.{Ranged, ownOf, Owns, boundBy, kindOk, partsOk, RunAt, RunsFrom};
 ghost use Rattle.accept.specs.Facts.{Placed, allCodes};
 use image::Counts;
@@ -200,25 +201,26 @@ fn parts_ok(
     at: Offsets,
     n: Counts,
     runs: &[u16],
+    kinds: &[u8],
     q: Own,
     o: usize,
     i: Instruction,
 ) -> bool
-    requires { ⌜ Laid (now image) at × Counted (now image) n × RunsFrom (now image) (now runs) 0 × (o < 65536) ⌝ }
+    requires { ⌜ Laid (now image) at × Counted (now image) n × RunsFrom (now image) (now runs) 0 × Kinds (now kinds) × (o < 65536) ⌝ }
     ensures { λ r. ⌜ r ≡ partsOk (now (image .entry)) n q o i ⌝ }
 {
-    let kind = kinds::kind(i.code);
+    let kind = kinds[i.code as usize];
     kind_ok(image, at, n, runs, q, o, i, kind)
 }
 
-fn check_code(image: &[u8], at: Offsets, n: Counts, runs: &[u16], q: Own) -> Checked
-    requires { ⌜ Laid (now image) at × Counted (now image) n × RunsFrom (now image) (now runs) 0 × Owns (now image) q ⌝ }
+fn check_code(image: &[u8], at: Offsets, n: Counts, runs: &[u16], kinds: &[u8], q: Own) -> Checked
+    requires { ⌜ Laid (now image) at × Counted (now image) n × RunsFrom (now image) (now runs) 0 × Kinds (now kinds) × Owns (now image) q ⌝ }
     ensures { λ r. ⌜ r ≡ firstFailing (codeTests (now (image .entry)) (q .program)) ⌝ }
 {
     let mut o: usize = 0;
     while o < q.count {
         let i = image::instruction(image, at, q.first + o);
-        let good = parts_ok(image, at, n, runs, q, o, i);
+        let good = parts_ok(image, at, n, runs, kinds, q, o, i);
         if good {
             o = o + 1;
         } else {
@@ -231,21 +233,28 @@ fn check_code(image: &[u8], at: Offsets, n: Counts, runs: &[u16], q: Own) -> Che
     Checked::Fine
 }
 
-fn check_program(image: &[u8], at: Offsets, n: Counts, runs: &[u16], p: usize) -> Checked
-    requires { ⌜ Laid (now image) at × Counted (now image) n × RunsFrom (now image) (now runs) 0 × Placed (now image) × (p < programs (now image)) ⌝ }
+fn check_program(
+    image: &[u8],
+    at: Offsets,
+    n: Counts,
+    runs: &[u16],
+    kinds: &[u8],
+    p: usize,
+) -> Checked
+    requires { ⌜ Laid (now image) at × Counted (now image) n × RunsFrom (now image) (now runs) 0 × Kinds (now kinds) × Placed (now image) × (p < programs (now image)) ⌝ }
     ensures { λ r. ⌜ r ≡ firstFailing (codeTests (now (image .entry)) p) ⌝ }
 {
     let q = read_own(image, at, p);
-    check_code(image, at, n, runs, q)
+    check_code(image, at, n, runs, kinds, q)
 }
 
-fn check_codes(image: &[u8], at: Offsets, n: Counts, runs: &[u16]) -> Checked
-    requires { ⌜ Laid (now image) at × Counted (now image) n × RunsFrom (now image) (now runs) 0 × Placed (now image) ⌝ }
+fn check_codes(image: &[u8], at: Offsets, n: Counts, runs: &[u16], kinds: &[u8]) -> Checked
+    requires { ⌜ Laid (now image) at × Counted (now image) n × RunsFrom (now image) (now runs) 0 × Kinds (now kinds) × Placed (now image) ⌝ }
     ensures { λ r. ⌜ r ≡ firstFailing (allCodes (now (image .entry))) ⌝ }
 {
     let mut p: usize = 0;
     while p < n.programs {
-        let one = check_program(image, at, n, runs, p);
+        let one = check_program(image, at, n, runs, kinds, p);
         match one {
             Checked::Fine => {
                 p = p + 1;
@@ -264,5 +273,6 @@ pub fn check_all_codes(image: &[u8], at: Offsets, n: Counts) -> Checked
 {
     let mut runs = [0u16; 1024];
     fill_runs(image, at, n, &mut runs);
-    check_codes(image, at, n, &runs)
+    let kinds = kinds::all();
+    check_codes(image, at, n, &runs, &kinds)
 }

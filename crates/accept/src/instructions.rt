@@ -42,7 +42,7 @@ fn read_own(image: &[u8], at: Offsets, p: usize) -> Own
     }
 }
 
-// Operand a is below the entry of the instruction's kind.
+// Operand a is below the entry of the instruction's kind: one row for all instructions of a program.
 fn bounds_by(n: Counts, q: Own) -> [usize; 11]
     ensures { λ r. ⌜ r ≡ boundsBy n q ⌝ }
 {
@@ -283,6 +283,7 @@ fn check_codes(image: &[u8], at: Offsets, n: Counts, runs: &[u16], kinds: &[u8])
     Checked::Fine
 }
 
+// The runs and the kinds are made once, for all programs.
 pub fn check_all_codes(image: &[u8], at: Offsets, n: Counts) -> Checked
     requires { ⌜ Laid (now image) at × Counted (now image) n × Ranged (now image) × Placed (now image) ⌝ }
     ensures { λ r. ⌜ r ≡ firstFailing (allCodes (now (image .entry))) ⌝ }

@@ -262,7 +262,7 @@ const KINDS: [u8; 256] = [
     0,
 ];
 
-// The kind of every code. A use of a constant array copies it: a caller that looks up many codes copies it once.
+// The kind of every code. Each use of a constant array copies it, so a caller takes it once and lends it.
 pub fn all() -> [u8; 256]
     ensures { λ r. ⌜ Kinds r ⌝ }
 {

@@ -12,7 +12,7 @@ use lib.ListN.{length}
 use Rattle.moore.specs.Objects.{choose}
 use Rattle.scope.specs.declared.Checked.{Checked}
 use Rattle.scope.specs.declared.Checked.the-variants.{Fine, Refused}
-use Rattle.scope.specs.Image.{word, programs, instructions, constants, dataCells, constantAt, firstInstruction, instructionCount}
+use Rattle.scope.specs.Image.{word, programs, instructions, constants, dataCells, constantAt, firstInstruction, instructionCount, operandBound}
 use Rattle.scope.specs.Cells.{objectp}
 use Rattle.scope.specs.Checks.{Test, test, firstFailing, tab, sum, ranges, sections, programOk, programTests, boundsOf, cellTests, codeTests}
 use Rattle.scope.specs.Checks.{allInstructions, lengthOk, imageTests, imageSays}
@@ -23,7 +23,7 @@ use Rattle.image.specs.declared.Counts.{Counts}
 use Rattle.image.specs.declared.Offsets.{Offsets}
 use Rattle.image.specs.Laid.{Laid, Counted, countsOf, offsetsOf}
 use Rattle.accept.specs.declared.instructions.Own.{Own}
-use Rattle.accept.specs.Facts.{Ranged, Joined, Placed, Through, Owns, ownOf, allCodes, cellOk, cellsFrom}
+use Rattle.accept.specs.Facts.{Ranged, Joined, Placed, Through, Owns, ownOf, boundsBy, Bounds, allCodes, cellOk, cellsFrom}
 use Rattle.accept.specs.Facts.{afterAreas, afterPrograms, afterSections, afterRanges, afterLength}
 
 -- ---- 12
@@ -142,8 +142,14 @@ by-cells b at n r l k e =
 
 pub owned : (b : List ℕ) (q : Own) (p : ℕ) → q ≡ ownOf b p → Placed b → p < programs b → Owns b q
 owned b q p e w l =
-    let t : Owns b (ownOf b p) = record { first-is = refl; count-is = refl; locals-are = refl; lie = w .lie p l; few = w .few } in
+    let t : Owns b (ownOf b p) = record { first-is = refl; count-is = refl; lie = w .lie p l; few = w .few } in
     rw e t
+
+pub bounded : (b bounds : List ℕ) (n : Counts) (q : Own) (p : ℕ) → Counted b n → q ≡ ownOf b p → bounds ≡ boundsBy n q → Bounds b (q .program) bounds
+unfolding operandBound
+bounded b bounds n q p k e h =
+    let t : Bounds b p (boundsBy n (ownOf b p)) = record { right = λ kind. rw (← k .programs-are, ← k .constants-are, ← k .areas-are) } in
+    rw (h, e) t
 
 pub of-own : (b : List ℕ) (q : Own) (p : ℕ) (r : Checked) → q ≡ ownOf b p → r ≡ firstFailing (codeTests b (q .program)) → r ≡ firstFailing (codeTests b p)
 of-own b q p r e h = h ∙ ap (λ (o : Own). firstFailing (codeTests b (o .program))) e
@@ -165,7 +171,7 @@ module _ (b : List ℕ) (n : Counts) (k : Counted b n) (p : ℕ) (t : Through b 
   unfolding allCodes
   through-over l = sym (concat-over (codeTests b) (programs b) (λ j m. t .fine j (omega (arith, k .programs-are))))
 
-pub ruleset codes = (owned, of-own, through-start, through-next, through-stop, through-over, arith)
+pub ruleset codes = (owned, bounded, of-own, through-start, through-next, through-stop, through-over, arith)
 
 -- ---- 11, and all of it
 

@@ -12,13 +12,14 @@ use lib.Seq.{getD-set-same, getD-set-other}
 use Rattle.scope.specs.declared.Cell.{Cell}
 use Rattle.scope.specs.declared.Instruction.{Instruction}
 use Rattle.scope.specs.declared.Checked.the-variants.{Fine, Refused}
-use Rattle.scope.specs.Image.{constants, constantAt, instructionAt, operandBound, kindOf}
+use Rattle.scope.specs.Image.{constants, constantAt, instructionAt}
 use Rattle.scope.specs.Checks.{firstFailing, everyCase, ends, instructionOk, codeTests}
 use Rattle.scope.proofs.Bools.{clash, and-both, and-le, and-gt, clauses}
 use Rattle.image.specs.declared.Counts.{Counts}
 use Rattle.image.specs.Laid.{Counted}
+use Rattle.kinds.specs.Kinds.{Kinds}
 use Rattle.accept.specs.declared.instructions.Own.{Own}
-use Rattle.accept.specs.Facts.{Passing, caseAt, RunAt, RunsFrom, Owns, boundBy, kindOk, partsOk}
+use Rattle.accept.specs.Facts.{Passing, caseAt, RunAt, RunsFrom, Owns, Bounds, kindOk, partsOk}
 use Rattle.accept.proofs.Walks.{passing-start, passing-next, passing-stop, passing-over}
 
 -- ---- the end of a program
@@ -49,10 +50,8 @@ pub ruleset endings = (ends-2, ends-12, ends-13, no-end, before-last, at-last, a
 
 -- ---- the bound of operand a
 
-pub past-kinds : (n : Counts) (q : Own) (kind : ℕ) → 11 ≤ kind → 0 ≡ boundBy n q kind
-unfolding boundBy
-past-kinds n q kind h =
-    sym (List·getD-eq-default (0 ∷ 1 ∷ n .programs ∷ n .constants ∷ q .locals ∷ n .areas ∷ 1025 ∷ q .count ∷ n .constants ∷ q .count ∷ q .count ∷ []) 0 {n = kind} h)
+pub past-kinds : (bounds : List ℕ) (kind : ℕ) → length bounds ≤ kind → 0 ≡ getD bounds kind 0
+past-kinds bounds kind h = sym (List·getD-eq-default bounds 0 {n = kind} h)
 
 -- ---- the constants of a JUMP-CASE
 
@@ -206,35 +205,31 @@ pub past-constants : (b : List ℕ) (n : Counts) (x : ℕ) (rest : Bool) → Cou
 past-constants b n x rest k h = and-gt x (constants b) rest (omega (arith, k .constants-are))
 
 -- a kind that was looked up
-pub by-kind : (b : List ℕ) (n : Counts) (q : Own) (o : ℕ) (i : Instruction) (kind : ℕ) (r : Bool) → kind ≡ kindOf (i .code)
-    → r ≡ kindOk b n q o i kind → r ≡ partsOk b n q o i
+pub by-kind : (b bounds : List ℕ) (q : Own) (o : ℕ) (i : Instruction) (table : List ℕ) (r : Bool) → Kinds table → i .code < 256
+    → r ≡ kindOk b bounds q o i (getD table (i .code) 0) → r ≡ partsOk b bounds q o i
 unfolding partsOk
-by-kind b n q o i kind r e h = h ∙ ap (kindOk b n q o i) e
+by-kind b bounds q o i table r t l h = h ∙ ap (kindOk b bounds q o i) (t .right (i .code) l)
 
 -- ---- the instructions of a program
 
-bound-is : (b : List ℕ) (n : Counts) (q : Own) (kind : ℕ) → Counted b n → Owns b q → boundBy n q kind ≡ operandBound b (q .program) kind
-unfolding boundBy operandBound
-bound-is b n q kind k w = rw (k .programs-are, k .constants-are, k .areas-are, w .count-is, w .locals-are)
-
-parts-are : (b : List ℕ) (n : Counts) (q : Own) (o : ℕ) (i : Instruction) → Counted b n → Owns b q → i ≡ instructionAt b (q .first + o)
-    → partsOk b n q o i ≡ instructionOk b (q .program) o
+parts-are : (b bounds : List ℕ) (q : Own) (o : ℕ) (i : Instruction) → Bounds b (q .program) bounds → Owns b q → i ≡ instructionAt b (q .first + o)
+    → partsOk b bounds q o i ≡ instructionOk b (q .program) o
 unfolding partsOk kindOk instructionOk
-parts-are b n q o i k w e =
-    ap (λ (j : Instruction). partsOk b n q o j) (e ∙ ap (λ (f : ℕ). instructionAt b (f + o)) (w .first-is))
-    ∙ rw (bound-is b n q _ k w, w .count-is)
+parts-are b bounds q o i k w e =
+    ap (λ (j : Instruction). partsOk b bounds q o j) (e ∙ ap (λ (f : ℕ). instructionAt b (f + o)) (w .first-is))
+    ∙ rw (k .right _, w .count-is)
 
-module _ (b : List ℕ) (n : Counts) (q : Own) (k : Counted b n) (w : Owns b q) (o : ℕ)
+module _ (b bounds : List ℕ) (q : Own) (k : Bounds b (q .program) bounds) (w : Owns b q) (o : ℕ)
     (v : Passing (instructionOk b (q .program)) (q .count) o) where
-  code-flag : (i : Instruction) (g t : Bool) → i ≡ instructionAt b (q .first + o) → g ≡ partsOk b n q o i → g ≡ t
+  code-flag : (i : Instruction) (g t : Bool) → i ≡ instructionAt b (q .first + o) → g ≡ partsOk b bounds q o i → g ≡ t
       → instructionOk b (q .program) o ≡ t
-  code-flag i g t e h f = sym (parts-are b n q o i k w e) ∙ sym h ∙ f
+  code-flag i g t e h f = sym (parts-are b bounds q o i k w e) ∙ sym h ∙ f
 
-  pub code-next : (i : Instruction) (g : Bool) → o < q .count → i ≡ instructionAt b (q .first + o) → g ≡ partsOk b n q o i → g ≡ true
+  pub code-next : (i : Instruction) (g : Bool) → o < q .count → i ≡ instructionAt b (q .first + o) → g ≡ partsOk b bounds q o i → g ≡ true
       → Passing (instructionOk b (q .program)) (q .count) (o + 1)
   code-next i g l e h f = passing-next _ (q .count) o v l (code-flag i g true e h f)
 
-  pub code-stop : (i : Instruction) (g : Bool) → o < q .count → i ≡ instructionAt b (q .first + o) → g ≡ partsOk b n q o i → g ≡ false
+  pub code-stop : (i : Instruction) (g : Bool) → o < q .count → i ≡ instructionAt b (q .first + o) → g ≡ partsOk b bounds q o i → g ≡ false
       → Refused 17 (q .first + o) ≡ firstFailing (codeTests b (q .program))
   unfolding codeTests
   code-stop i g l e h f =

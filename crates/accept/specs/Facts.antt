@@ -7,7 +7,7 @@ use lib.Dec.{eqb, leb, ltb}
 use lib.ListN.{length, getD}
 use Rattle.moore.specs.Objects.{choose}
 use Rattle.scope.specs.declared.Instruction.{Instruction}
-use Rattle.scope.specs.Image.{word, programs, instructions, firstInstruction, instructionCount, locals, constants, constantAt, kindOf, conditionsOf}
+use Rattle.scope.specs.Image.{word, programs, instructions, firstInstruction, instructionCount, locals, constants, constantAt, kindOf, conditionsOf, operandBound}
 use Rattle.scope.specs.Cells.{cellFrom, objectp}
 use Rattle.scope.specs.Checks.{Test, test, firstFailing, tab, concat, sum, boundsOf, casesOk, ends}
 use Rattle.scope.specs.Checks.{ranges, sections, programTests, areaTests, cellTests, codeTests}
@@ -70,16 +70,17 @@ ownOf b p = record { program = p; first = firstInstruction b p; count = instruct
 pub record Owns (b : List ℕ) (q : Own) : Type 0 where
   pub first-is : q .first ≡ firstInstruction b (q .program)
   pub count-is : q .count ≡ instructionCount b (q .program)
-  pub locals-are : q .locals ≡ locals b (q .program)
   pub lie : q .first + q .count ≤ instructions b
   pub few : instructions b ≤ 2048
 
-unfoldable pub boundBy : Counts → Own → ℕ → ℕ
-boundBy n q kind =
-    getD
-    (0 ∷ 1 ∷ n .programs ∷ n .constants ∷ q .locals ∷ n .areas ∷ 1025 ∷ q .count ∷ n .constants ∷ q .count ∷ q .count ∷ [])
-    kind
-    0
+-- the operand's bound for each kind, by what was read
+abbrev pub boundsBy : Counts → Own → List ℕ
+boundsBy n q =
+    0 ∷ 1 ∷ n .programs ∷ n .constants ∷ q .locals ∷ n .areas ∷ 1025 ∷ q .count ∷ n .constants ∷ q .count ∷ q .count ∷ []
+
+-- the bounds of program p's operands
+pub record Bounds (b : List ℕ) (p : ℕ) (bounds : List ℕ) : Type 0 where
+  pub right : (kind : ℕ) → getD bounds kind 0 ≡ operandBound b p kind
 
 -- constant from + k is a PC of program p
 unfoldable pub caseAt : List ℕ → ℕ → ℕ → ℕ → Bool
@@ -98,15 +99,15 @@ pub record RunsFrom (b runs : List ℕ) (low : ℕ) : Type 0 where
   pub right : (k : ℕ) → low ≤ k → k < constants b → RunAt b k (getD runs k 0)
 
 -- place o of program q, by its instruction and the kind of its code
-unfoldable pub kindOk : List ℕ → Counts → Own → ℕ → Instruction → ℕ → Bool
-kindOk b n q o i kind =
+unfoldable pub kindOk : List ℕ → List ℕ → Own → ℕ → Instruction → ℕ → Bool
+kindOk b bounds q o i kind =
     ltb (i .condition) (conditionsOf kind)
-    && (ltb (i .a) (boundBy n q kind)
+    && (ltb (i .a) (getD bounds kind 0)
     && (choose (eqb kind 8) (casesOk b (q .program) i) (eqb (i .b) 0)
     && (eqb (i .zero) 0 && (ltb (o + 1) (q .count) || ends (i .code)))))
 
-unfoldable pub partsOk : List ℕ → Counts → Own → ℕ → Instruction → Bool
-partsOk b n q o i = kindOk b n q o i (kindOf (i .code))
+unfoldable pub partsOk : List ℕ → List ℕ → Own → ℕ → Instruction → Bool
+partsOk b bounds q o i = kindOk b bounds q o i (kindOf (i .code))
 
 -- ---- one number after the other
 

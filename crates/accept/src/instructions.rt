@@ -3,13 +3,14 @@ ghost use mathlib.Core.Path.{_≡_};
 ghost use mathlib.Core.Bool.{_&&_, _||_, true};
 ghost use Prim.Native.Nat.{_+_, _<_, _≤_};
 ghost use lib.Dec.{eqb, ltb};
-ghost use lib.ListN.{length};
+ghost use lib.ListN.{length, getD};
 ghost use Rattle.moore.specs.Objects.{choose};
 ghost use Rattle.scope.specs.Image.{programs, constants};
 ghost use Rattle.scope.specs.Checks.{firstFailing};
 ghost use Rattle.scope.specs.Checks.{casesOk, ends, codeTests};
 ghost use Rattle.image.specs.Laid.{Laid, Counted};
-ghost use Rattle.accept.specs.Facts.{Ranged, ownOf, Owns, boundBy, kindOk, partsOk, RunAt, RunsFrom};
+ghost use Rattle.kinds.specs.Kinds.{Kinds};
+ghost use Rattle.accept.specs.Facts.{Ranged, ownOf, Owns, boundsBy, Bounds, kindOk, partsOk, RunAt, RunsFrom};
 ghost use Rattle.accept.specs.Facts.{Placed, allCodes};
 use image::Counts;
 use image::Offsets;
@@ -41,11 +42,11 @@ fn read_own(image: &[u8], at: Offsets, p: usize) -> Own
     }
 }
 
-// Operand a is below this.
-fn operand_bound(n: Counts, q: Own, kind: u8) -> usize
-    ensures { λ r. ⌜ r ≡ boundBy n q kind ⌝ }
+// Operand a is below the entry of the instruction's kind: one row for all instructions of a program.
+fn bounds_by(n: Counts, q: Own) -> [usize; 11]
+    ensures { λ r. ⌜ r ≡ boundsBy n q ⌝ }
 {
-    let bounds: [usize; 11] = [
+    [
         0,
         1,
         n.programs,
@@ -57,9 +58,14 @@ fn operand_bound(n: Counts, q: Own, kind: u8) -> usize
         n.constants,
         q.count,
         q.count,
-    ];
+    ]
+}
+
+fn operand_bound(bounds: &[usize], kind: u8) -> usize
+    ensures { λ r. ⌜ r ≡ getD (now (bounds .entry)) kind 0 ⌝ }
+{
     let k = kind as usize;
-    if k < 11 { bounds[k] } else { 0 }
+    if k < bounds.len() { bounds[k] } else { 0 }
 }
 
 // A PC of program p.
@@ -169,16 +175,17 @@ fn kind_ok(
     at: Offsets,
     n: Counts,
     runs: &[u16],
+    bounds: &[usize],
     q: Own,
     o: usize,
     i: Instruction,
     kind: u8,
 ) -> bool
     requires { ⌜ Laid (now image) at × Counted (now image) n × RunsFrom (now image) (now runs) 0 × (o < 65536) ⌝ }
-    ensures { λ r. ⌜ r ≡ kindOk (now (image .entry)) n q o i kind ⌝ }
+    ensures { λ r. ⌜ r ≡ kindOk (now (image .entry)) (now (bounds .entry)) q o i kind ⌝ }
 {
     let conditions = kinds::conditions(kind);
-    let bound = operand_bound(n, q, kind);
+    let bound = operand_bound(bounds, kind);
     if i.condition < conditions {} else {
         return false;
     }
@@ -200,25 +207,35 @@ fn parts_ok(
     at: Offsets,
     n: Counts,
     runs: &[u16],
+    kinds: &[u8],
+    bounds: &[usize],
     q: Own,
     o: usize,
     i: Instruction,
 ) -> bool
-    requires { ⌜ Laid (now image) at × Counted (now image) n × RunsFrom (now image) (now runs) 0 × (o < 65536) ⌝ }
-    ensures { λ r. ⌜ r ≡ partsOk (now (image .entry)) n q o i ⌝ }
+    requires { ⌜ Laid (now image) at × Counted (now image) n × RunsFrom (now image) (now runs) 0 × Kinds (now kinds) × (o < 65536) ⌝ }
+    ensures { λ r. ⌜ r ≡ partsOk (now (image .entry)) (now (bounds .entry)) q o i ⌝ }
 {
-    let kind = kinds::kind(i.code);
-    kind_ok(image, at, n, runs, q, o, i, kind)
+    let kind = kinds[i.code as usize];
+    kind_ok(image, at, n, runs, bounds, q, o, i, kind)
 }
 
-fn check_code(image: &[u8], at: Offsets, n: Counts, runs: &[u16], q: Own) -> Checked
-    requires { ⌜ Laid (now image) at × Counted (now image) n × RunsFrom (now image) (now runs) 0 × Owns (now image) q ⌝ }
+fn check_code(
+    image: &[u8],
+    at: Offsets,
+    n: Counts,
+    runs: &[u16],
+    kinds: &[u8],
+    bounds: &[usize],
+    q: Own,
+) -> Checked
+    requires { ⌜ Laid (now image) at × Counted (now image) n × RunsFrom (now image) (now runs) 0 × Kinds (now kinds) × Bounds (now image) (q .program) (now bounds) × Owns (now image) q ⌝ }
     ensures { λ r. ⌜ r ≡ firstFailing (codeTests (now (image .entry)) (q .program)) ⌝ }
 {
     let mut o: usize = 0;
     while o < q.count {
         let i = image::instruction(image, at, q.first + o);
-        let good = parts_ok(image, at, n, runs, q, o, i);
+        let good = parts_ok(image, at, n, runs, kinds, bounds, q, o, i);
         if good {
             o = o + 1;
         } else {
@@ -231,21 +248,29 @@ fn check_code(image: &[u8], at: Offsets, n: Counts, runs: &[u16], q: Own) -> Che
     Checked::Fine
 }
 
-fn check_program(image: &[u8], at: Offsets, n: Counts, runs: &[u16], p: usize) -> Checked
-    requires { ⌜ Laid (now image) at × Counted (now image) n × RunsFrom (now image) (now runs) 0 × Placed (now image) × (p < programs (now image)) ⌝ }
+fn check_program(
+    image: &[u8],
+    at: Offsets,
+    n: Counts,
+    runs: &[u16],
+    kinds: &[u8],
+    p: usize,
+) -> Checked
+    requires { ⌜ Laid (now image) at × Counted (now image) n × RunsFrom (now image) (now runs) 0 × Kinds (now kinds) × Placed (now image) × (p < programs (now image)) ⌝ }
     ensures { λ r. ⌜ r ≡ firstFailing (codeTests (now (image .entry)) p) ⌝ }
 {
     let q = read_own(image, at, p);
-    check_code(image, at, n, runs, q)
+    let bounds = bounds_by(n, q);
+    check_code(image, at, n, runs, kinds, &bounds, q)
 }
 
-fn check_codes(image: &[u8], at: Offsets, n: Counts, runs: &[u16]) -> Checked
-    requires { ⌜ Laid (now image) at × Counted (now image) n × RunsFrom (now image) (now runs) 0 × Placed (now image) ⌝ }
+fn check_codes(image: &[u8], at: Offsets, n: Counts, runs: &[u16], kinds: &[u8]) -> Checked
+    requires { ⌜ Laid (now image) at × Counted (now image) n × RunsFrom (now image) (now runs) 0 × Kinds (now kinds) × Placed (now image) ⌝ }
     ensures { λ r. ⌜ r ≡ firstFailing (allCodes (now (image .entry))) ⌝ }
 {
     let mut p: usize = 0;
     while p < n.programs {
-        let one = check_program(image, at, n, runs, p);
+        let one = check_program(image, at, n, runs, kinds, p);
         match one {
             Checked::Fine => {
                 p = p + 1;
@@ -258,11 +283,13 @@ fn check_codes(image: &[u8], at: Offsets, n: Counts, runs: &[u16]) -> Checked
     Checked::Fine
 }
 
+// The runs and the kinds are made once, for all programs.
 pub fn check_all_codes(image: &[u8], at: Offsets, n: Counts) -> Checked
     requires { ⌜ Laid (now image) at × Counted (now image) n × Ranged (now image) × Placed (now image) ⌝ }
     ensures { λ r. ⌜ r ≡ firstFailing (allCodes (now (image .entry))) ⌝ }
 {
     let mut runs = [0u16; 1024];
     fill_runs(image, at, n, &mut runs);
-    check_codes(image, at, n, &runs)
+    let kinds = kinds::all();
+    check_codes(image, at, n, &runs, &kinds)
 }

@@ -1,9 +1,10 @@
 -- The table, and its rule at all 256 entries by one test: the entry is the code's kind, and it is not 0 exactly at 1 to 36.
 use mathlib.Core.Path.{_≡_, refl, sym, ap, _∙_}
 use mathlib.Core.List.{List, [], _∷_}
-use mathlib.Core.Bool.{Bool, true, false, _&&_, Bool·beq}
+use mathlib.Core.Bool.{Bool, true, false, _&&_, _||_, Bool·beq}
 use Prim.Native.Nat.{ℕ, _<_, _≤_}
-use borrow.Author.Tests.{eqb-true}
+use native.Mathlib.Omega.{arith}
+use borrow.Author.Tests.{eqb-true, lt-leb}
 use lib.Dec.{eqb, leb, ltb}
 use lib.ListN.{getD, List·getD-eq-default}
 use Rattle.scope.specs.Image.{kindOf, conditionsOf}
@@ -47,7 +48,32 @@ unfolding right
 live-exactly code h =
     ap (ltb 0) (sym (entry code h)) ∙ beq _ _ (and-both (eqb (getD table code 0) (kindOf code)) _ (test code h) .1)
 
--- past the last kind there is no condition
-pub no-conditions : (kind : ℕ) → 11 ≤ kind → 0 ≡ conditionsOf kind
+-- ---- how many conditions a kind has
+
+unfoldable conditions : List ℕ
+conditions = 0 ∷ 1 ∷ 1 ∷ 1 ∷ 1 ∷ 1 ∷ 1 ∷ 1 ∷ 1 ∷ 2 ∷ 6 ∷ []
+
+pub none-at-0 : (kind : ℕ) → kind < 1 → 0 ≡ conditionsOf kind
 unfolding conditionsOf
-no-conditions kind h = sym (List·getD-eq-default (0 ∷ 1 ∷ 1 ∷ 1 ∷ 1 ∷ 1 ∷ 1 ∷ 1 ∷ 1 ∷ 2 ∷ 6 ∷ []) 0 {n = kind} h)
+none-at-0 kind h = let e : kind ≡ 0 = omega arith in rw e
+
+pub one-between : (kind : ℕ) → 1 ≤ kind → kind < 9 → 1 ≡ conditionsOf kind
+unfolding conditionsOf conditions
+one-between kind l h =
+    let t : leb 9 kind || (leb kind 0 || eqb 1 (getD conditions kind 0)) ≡ true =
+    at (λ k x. leb 9 k || (leb k 0 || eqb 1 x)) conditions refl kind (omega arith) in
+    eqb-true _ _ (rw (lt-leb 9 kind h, lt-leb kind 0 l) at t)
+
+pub two-at-9 : (kind : ℕ) → kind ≡ 9 → 2 ≡ conditionsOf kind
+unfolding conditionsOf
+two-at-9 kind e = rw e
+
+pub six-at-10 : (kind : ℕ) → kind ≡ 10 → 6 ≡ conditionsOf kind
+unfolding conditionsOf
+six-at-10 kind e = rw e
+
+pub none-past : (kind : ℕ) → 8 < kind → (kind ≡ 9 → ⊥) → (kind ≡ 10 → ⊥) → 0 ≡ conditionsOf kind
+unfolding conditionsOf conditions
+none-past kind h p q = sym (List·getD-eq-default conditions 0 {n = kind} (omega arith))
+
+pub ruleset rows = (none-at-0, one-between, two-at-9, six-at-10, none-past, arith)

@@ -1,6 +1,7 @@
 // The operand kind of every code byte, as one constant table, and what a kind says of the condition.
 ghost use mathlib.Core.Path.{_≡_};
-ghost use Rattle.scope.specs.Image.{kindOf, conditionsOf};
+ghost use Rattle.scope.specs.Image.{conditionsOf};
+ghost use Rattle.kinds.specs.Kinds.{Kinds};
 
 const KINDS: [u8; 256] = [
     0,
@@ -261,19 +262,21 @@ const KINDS: [u8; 256] = [
     0,
 ];
 
-const CONDITIONS: [u8; 11] = [0, 1, 1, 1, 1, 1, 1, 1, 1, 2, 6];
-
-// 0 exactly for a code that is no instruction's.
-pub fn kind(code: u8) -> u8
-    ensures { λ r. ⌜ r ≡ kindOf code ⌝ }
+// The kind of every code. Each use of a constant array copies it, so a caller takes it once and lends it.
+pub fn all() -> [u8; 256]
+    ensures { λ r. ⌜ Kinds r ⌝ }
 {
-    KINDS[code as usize]
+    KINDS
 }
 
 // How many conditions an instruction of this kind has.
 pub fn conditions(kind: u8) -> u8
     ensures { λ r. ⌜ r ≡ conditionsOf kind ⌝ }
 {
-    let k = kind as usize;
-    if k < 11 { CONDITIONS[k] } else { 0 }
+    match kind {
+        1 | 2 | 3 | 4 | 5 | 6 | 7 | 8 => 1,
+        9 => 2,
+        10 => 6,
+        _ => 0,
+    }
 }

@@ -1,21 +1,24 @@
--- `kinds::conditions` meets its contract: the table is the definition's list, and past its end both give 0.
-use mathlib.Core.Path.{refl}
-use borrow.Author.Needs.{needs}
-use native.Mathlib.Omega.{arith}
-use Rattle.scope.specs.Image.{conditionsOf}
-use Rattle.kinds.proofs.Live.{no-conditions}
+-- `kinds::conditions` meets its contract, row by row.
+use Rattle.kinds.proofs.Live.{rows}
 use Rattle.kinds.proofs.conditions.Statement.{statement}
 use Rattle.kinds.proofs.conditions.Tie as tie
-
-array-read-result : tie.Need-array-read-result
-array-read-result c = search needs
+use Rattle.kinds.proofs.conditions.Reads as reads
+use Rattle.kinds.proofs.conditions.Lts as lts
 
 returns : tie.Need-returns
-unfolding conditionsOf
-returns c = refl
+returns c = search rows
 
 returns-2 : tie.Need-returns-2
-returns-2 c = no-conditions _ (omega arith)
+returns-2 c = search rows
+
+returns-3 : tie.Need-returns-3
+returns-3 c = search rows
+
+returns-4 : tie.Need-returns-4
+returns-4 c = search rows
+
+returns-5 : tie.Need-returns-5
+returns-5 c = search rows
 
 pub conditions-spec : {M : Type 1} → statement M
-conditions-spec = tie.close (tie.spec array-read-result returns returns-2)
+conditions-spec = tie.close (tie.spec returns returns-2 returns-3 returns-4 returns-5)

@@ -11,10 +11,10 @@ use Rattle.accept.proofs.instructions.parts_ok.Reads as parts-ok-reads
 use Rattle.image.proofs.instruction.Reads as instruction-reads
 
 abbrev Inv-loop : tie.InvT-loop
-Inv-loop image at n runs q o₀ o = Passing (instructionOk image (q .program)) (q .count) o
+Inv-loop image at n runs kinds bounds q o₀ o = Passing (instructionOk image (q .program)) (q .count) o
 
 abbrev μ-loop : tie.MeasureT-loop
-μ-loop image at n runs q o₀ o = q .count - o
+μ-loop image at n runs kinds bounds q o₀ o = q .count - o
 
 loop-holds : tie.Need-loop-holds Inv-loop μ-loop
 loop-holds c = search code-walks
@@ -37,11 +37,11 @@ loop-less c = search needs
 loop-again : tie.Need-loop-again Inv-loop μ-loop
 loop-again c = search code-walks
 
-add-t11 : tie.Need-add-t11 Inv-loop μ-loop
-add-t11 c = search needs
+add-t13 : tie.Need-add-t13 Inv-loop μ-loop
+add-t13 c = search needs
 
-cast-t12 : tie.Need-cast-t12 Inv-loop μ-loop
-cast-t12 c = search needs
+cast-t14 : tie.Need-cast-t14 Inv-loop μ-loop
+cast-t14 c = search needs
 
 returns : tie.Need-returns Inv-loop μ-loop
 returns c = search code-walks
@@ -62,7 +62,7 @@ check-code-spec =
     add-o
     loop-less
     loop-again
-    add-t11
-    cast-t12
+    add-t13
+    cast-t14
     returns
     returns-2)

@@ -9,16 +9,16 @@ use Rattle.accept.proofs.instructions.check_codes.Lts as lts
 use Rattle.accept.proofs.instructions.check_program.Reads as check-program-reads
 
 abbrev Inv-loop : tie.InvT-loop
-Inv-loop image at n runs p₀ p = Through image (n .programs) p
+Inv-loop image at n runs kinds p₀ p = Through image (n .programs) p
 
 abbrev μ-loop : tie.MeasureT-loop
-μ-loop image at n runs p₀ p = n .programs - p
+μ-loop image at n runs kinds p₀ p = n .programs - p
 
 loop-holds : tie.Need-loop-holds Inv-loop μ-loop
 loop-holds c = search codes
 
 check-program-requires : tie.Need-check-program-requires Inv-loop μ-loop
-check-program-requires c κs = search needs
+check-program-requires c κs = (search needs, search needs, search needs, search needs, search needs, search needs)
 
 enum-told : tie.Need-enum-told Inv-loop μ-loop
 enum-told c = search needs

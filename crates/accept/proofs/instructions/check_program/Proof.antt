@@ -4,11 +4,18 @@ use Rattle.accept.proofs.instructions.check_program.Statement.{statemen
 use Rattle.accept.proofs.instructions.check_program.Tie as tie
 use Rattle.accept.proofs.instructions.check_program.Reads as reads
 use Rattle.accept.proofs.instructions.check_program.Lts as lts
+use Rattle.accept.proofs.instructions.bounds_by.Reads as bounds-by-reads
 use Rattle.accept.proofs.instructions.check_code.Reads as check-code-reads
 use Rattle.accept.proofs.instructions.read_own.Reads as read-own-reads
 
 read-own-requires : tie.Need-read-own-requires
 read-own-requires c κs = search needs
+
+bounds-by-requires : tie.Need-bounds-by-requires
+bounds-by-requires c κs = search needs
+
+slice-aggregate-check-code : tie.Need-slice-aggregate-check-code
+slice-aggregate-check-code c = search needs
 
 check-code-requires : tie.Need-check-code-requires
 check-code-requires c κs = search (codes, needs)
@@ -17,4 +24,11 @@ returns : tie.Need-returns
 returns c = search codes
 
 pub check-program-spec : {M : Type 1} → statement M
-check-program-spec = tie.close (tie.spec read-own-requires check-code-requires returns)
+check-program-spec =
+    tie.close
+    (tie.spec
+    read-own-requires
+    bounds-by-requires
+    slice-aggregate-check-code
+    check-code-requires
+    returns)

@@ -5,10 +5,12 @@ use Rattle.accept.proofs.instructions.parts_ok.Tie as tie
 use Rattle.accept.proofs.instructions.parts_ok.Reads as reads
 use Rattle.accept.proofs.instructions.parts_ok.Lts as lts
 use Rattle.accept.proofs.instructions.kind_ok.Reads as kind-ok-reads
-use Rattle.kinds.proofs.kind.Reads as kind-reads
 
-kind-requires : tie.Need-kind-requires
-kind-requires c κs = search needs
+cast-kind : tie.Need-cast-kind
+cast-kind c = search needs
+
+shared-slice-read-kind : tie.Need-shared-slice-read-kind
+shared-slice-read-kind c = search needs
 
 kind-ok-requires : tie.Need-kind-ok-requires
 kind-ok-requires c κs = search needs
@@ -17,4 +19,4 @@ returns : tie.Need-returns
 returns c = search by-kind
 
 pub parts-ok-spec : {M : Type 1} → statement M
-parts-ok-spec = tie.close (tie.spec kind-requires kind-ok-requires returns)
+parts-ok-spec = tie.close (tie.spec cast-kind shared-slice-read-kind kind-ok-requires returns)

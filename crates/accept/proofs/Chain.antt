@@ -1,8 +1,8 @@
 -- One number after the other: checks in a row, and what a check that passed gives the next.
 use mathlib.Core.Path.{_≡_, refl, sym, ap, _∙_}
-use mathlib.Core.List.{List, [], _∷_, _++_}
+use mathlib.Core.List.{List, [], _∷_}
 use mathlib.Core.Bool.{true, _&&_}
-use Prim.Native.Nat.{ℕ, zero, suc, _+_, _<_, _≤_}
+use Prim.Native.Nat.{ℕ, _+_, _*_, _<_, _≤_}
 use native.Mathlib.Omega.{arith}
 use native.Mathlib.Nat.{zero-add}
 use borrow.Author.Count.{below-more}
@@ -12,18 +12,24 @@ use lib.ListN.{length}
 use Rattle.moore.specs.Objects.{choose}
 use Rattle.scope.specs.declared.Checked.{Checked}
 use Rattle.scope.specs.declared.Checked.the-variants.{Fine, Refused}
-use Rattle.scope.specs.Image.{word, programs, instructions, constants, dataCells, constantAt, firstInstruction, instructionCount, operandBound}
-use Rattle.scope.specs.Cells.{objectp}
-use Rattle.scope.specs.Checks.{Test, test, firstFailing, tab, sum, ranges, sections, programOk, programTests, boundsOf, cellTests, codeTests}
+use Rattle.scope.specs.Image.{word, programs, instructions, constants, dataCells, constantAt, dataCellAt, firstInstruction, instructionCount, operandBound}
+use Rattle.scope.specs.Cells.{cellFrom, objectp}
+use Rattle.scope.specs.declared.Cell.{Cell}
+use Rattle.scope.specs.Checks.{test, firstFailing, tab, sum, ranges, sections, programOk, programTests, boundsOf, cellTests, codeTests}
 use Rattle.scope.specs.Checks.{allInstructions, lengthOk, imageTests, imageSays}
 use Rattle.scope.proofs.Bools.{and-both}
 use Rattle.scope.proofs.Formed.{sum-part}
-use Rattle.scope.proofs.Tests.{head-fine, append-fine, tab-fine, concat-over, concat-stop}
+use Rattle.scope.proofs.Tests.{head-fine, append-fine, tab-fine, concat-over, concat-stop, then-fine, then-refused}
+use Rattle.scope.proofs.Tabs.{tab-same}
 use Rattle.image.specs.declared.Counts.{Counts}
 use Rattle.image.specs.declared.Offsets.{Offsets}
+use Rattle.image.specs.declared.Section.{Section}
+use Rattle.image.specs.declared.Section.the-variants.{Constants, Cells}
+use Rattle.image.specs.View.{sizeOf, placeOf, AreRecords}
+use Rattle.image.proofs.Records.{cell-read}
 use Rattle.image.specs.Laid.{Laid, Counted, countsOf, offsetsOf}
 use Rattle.accept.specs.declared.instructions.Own.{Own}
-use Rattle.accept.specs.Facts.{Ranged, Joined, Placed, Through, Owns, ownOf, boundsBy, Bounds, allCodes, cellOk, cellsFrom}
+use Rattle.accept.specs.Facts.{Ranged, Joined, Placed, Through, Owns, ownOf, boundsBy, Bounds, allCodes, cellOk, rowTests}
 use Rattle.accept.specs.Facts.{afterAreas, afterPrograms, afterSections, afterRanges, afterLength}
 
 -- ---- 12
@@ -118,25 +124,46 @@ placed b x e f r = record { lie = lie; few = r .instructions .1 }
 
 -- ---- 16
 
-tab-same : (f g : ℕ → Test) (n : ℕ) → ((k : ℕ) → f k ≡ g k) → tab f n ≡ tab g n
-tab-same f g zero h = refl
-tab-same f g (suc n) h = rw (h 0) (ap (λ (l : List Test). g 0 ∷ l) (tab-same (λ i. f (suc i)) (λ i. g (suc i)) n (λ k. h (suc k))))
+-- a row that is the records of a section of cells
+row-is : (b : List ℕ) (at : Offsets) (l : Laid b at) (s : Section) (many place : ℕ) (row : List ℕ) (from : ℕ) → sizeOf s ≡ 8
+    → AreRecords b at s 0 many row → from ≡ placeOf at s 0
+    → rowTests b row many place ≡ tab (λ k. test 16 (place + k) (objectp (boundsOf b) (cellFrom b (from + 8 * k)))) many
+unfolding rowTests cellOk
+row-is b at l s many place row from eight are e =
+    tab-same (λ k. test 16 (place + k) (objectp (boundsOf b) (cellFrom row (8 * k))))
+    (λ k. test 16 (place + k) (objectp (boundsOf b) (cellFrom b (from + 8 * k)))) many
+    (λ k h. ap (λ (c : Cell). test 16 (place + k) (objectp (boundsOf b) c))
+    (ap (cellFrom row) (sym (zero-add (8 * k))) ∙ cell-read b at l 0 many row s from eight are e k h))
 
-first-cells : (b : List ℕ) → cellsFrom b (word b 9) (constants b) 0 ≡ tab (λ k. test 16 k (objectp (boundsOf b) (constantAt b k))) (constants b)
-unfolding cellsFrom cellOk
-first-cells b =
-    tab-same (λ k. test 16 (0 + k) (objectp (boundsOf b) (constantAt b k))) (λ k. test 16 k (objectp (boundsOf b) (constantAt b k))) (constants b)
-    (λ k. ap (λ (p : ℕ). test 16 p (objectp (boundsOf b) (constantAt b k))) (zero-add k))
+module _ (b : List ℕ) (at : Offsets) (n : Counts) (l : Laid b at) (c : Counted b n) where
+  constants-row : (row : List ℕ) → AreRecords b at Constants 0 (n .constants) row
+      → rowTests b row (n .constants) 0 ≡ tab (λ k. test 16 k (objectp (boundsOf b) (constantAt b k))) (constants b)
+  constants-row row are =
+      row-is b at l Constants (n .constants) 0 row (word b 9) refl are (omega (arith, l .constants-at))
+      ∙ tab-same (λ k. test 16 (0 + k) (objectp (boundsOf b) (constantAt b k))) (λ k. test 16 k (objectp (boundsOf b) (constantAt b k))) (n .constants)
+      (λ k h. ap (λ (p : ℕ). test 16 p (objectp (boundsOf b) (constantAt b k))) (zero-add k))
+      ∙ ap (tab (λ k. test 16 k (objectp (boundsOf b) (constantAt b k)))) (c .constants-are)
 
-all-cells : (b : List ℕ) → cellsFrom b (word b 9) (constants b) 0 ++ cellsFrom b (word b 10) (dataCells b) (constants b) ≡ cellTests b
-unfolding cellsFrom cellOk cellTests
-all-cells b = ap (λ (ts : List Test). ts ++ cellsFrom b (word b 10) (dataCells b) (constants b)) (first-cells b)
+  cells-row : (row : List ℕ) → AreRecords b at Cells 0 (n .cells) row
+      → rowTests b row (n .cells) (n .constants) ≡ tab (λ k. test 16 (constants b + k) (objectp (boundsOf b) (dataCellAt b k))) (dataCells b)
+  cells-row row are =
+      row-is b at l Cells (n .cells) (n .constants) row (word b 10) refl are (omega (arith, l .cells-at))
+      ∙ (λ i. tab (λ k. test 16 (c .constants-are i + k) (objectp (boundsOf b) (dataCellAt b k))) (c .cells-are i))
 
-pub by-cells : (b : List ℕ) (at : Offsets) (n : Counts) (r : Checked) → Laid b at → Counted b n
-    → r ≡ firstFailing (cellsFrom b (at .constants) (n .constants) 0 ++ cellsFrom b (at .cells) (n .cells) (n .constants))
-    → r ≡ firstFailing (cellTests b)
-by-cells b at n r l k e =
-    e ∙ rw (l .constants-at, l .cells-at, k .constants-are, k .cells-are) (ap firstFailing (all-cells b))
+  -- the constants, and then the data cells
+  pub row-refused : (row : List ℕ) (v : Checked) (a p : ℕ) → AreRecords b at Constants 0 (n .constants) row
+      → v ≡ firstFailing (rowTests b row (n .constants) 0) → v ≡ Refused a p → Refused a p ≡ firstFailing (cellTests b)
+  unfolding cellTests
+  row-refused row v a p are e f = then-refused _ _ v a p (e ∙ ap firstFailing (constants-row row are)) f
+
+  pub rows-said : (row next : List ℕ) (v x : Checked) → AreRecords b at Constants 0 (n .constants) row
+      → v ≡ firstFailing (rowTests b row (n .constants) 0) → v ≡ Fine → AreRecords b at Cells 0 (n .cells) next
+      → x ≡ firstFailing (rowTests b next (n .cells) (n .constants)) → x ≡ firstFailing (cellTests b)
+  unfolding cellTests
+  rows-said row next v x are e f are′ g =
+      then-fine _ _ v x (e ∙ ap firstFailing (constants-row row are)) f (g ∙ ap firstFailing (cells-row next are′))
+
+pub ruleset rows = (row-refused, rows-said)
 
 -- ---- 17
 

@@ -19,7 +19,7 @@ use Rattle.scope.specs.Image.{areaField}
 use Rattle.scope.specs.Checks.{boundsOf}
 use Rattle.scope.proofs.Bools.{and-eq, and-ne}
 use Rattle.scope.proofs.Tests.{tab-over, tab-stop}
-use Rattle.accept.specs.Facts.{Walk, Passing, cellOk, cellsFrom}
+use Rattle.accept.specs.Facts.{Walk, Passing, cellOk, rowTests}
 
 -- ---- the walk
 
@@ -137,22 +137,22 @@ unfolding firstFailing
 passing-over ok num place n k w l =
     sym (alone (λ j. test num (place j) (ok j)) n ∙ tab-over (λ j. test num (place j) (ok j)) n [] (λ j m. w .passed j (omega arith)))
 
-module _ (b : List ℕ) (from n k : ℕ) (w : Passing (cellOk b from) n k) where
-  cell-flag : (x : Cell) (g t : Bool) → x ≡ cellFrom b (from + 8 * k) → g ≡ objectp (boundsOf b) x → g ≡ t → cellOk b from k ≡ t
+module _ (b row : List ℕ) (n k : ℕ) (w : Passing (cellOk b row) n k) where
+  cell-flag : (x : Cell) (g t : Bool) → x ≡ cellFrom row (8 * k) → g ≡ objectp (boundsOf b) x → g ≡ t → cellOk b row k ≡ t
   unfolding cellOk
   cell-flag x g t e q h = ap (objectp (boundsOf b)) (sym e) ∙ sym q ∙ h
 
-  pub cells-next : (x : Cell) (g : Bool) → k < n → x ≡ cellFrom b (from + 8 * k) → g ≡ objectp (boundsOf b) x → g ≡ true
-      → Passing (cellOk b from) n (k + 1)
+  pub cells-next : (x : Cell) (g : Bool) → k < n → x ≡ cellFrom row (8 * k) → g ≡ objectp (boundsOf b) x → g ≡ true
+      → Passing (cellOk b row) n (k + 1)
   cells-next x g l e q h = passing-next _ n k w l (cell-flag x g true e q h)
 
-  pub cells-stop : (place : ℕ) (x : Cell) (g : Bool) → k < n → x ≡ cellFrom b (from + 8 * k) → g ≡ objectp (boundsOf b) x → g ≡ false
-      → Refused 16 (place + k) ≡ firstFailing (cellsFrom b from n place)
-  unfolding cellsFrom
-  cells-stop place x g l e q h = passing-stop (cellOk b from) 16 (λ j. place + j) n k w l (cell-flag x g false e q h)
+  pub cells-stop : (place : ℕ) (x : Cell) (g : Bool) → k < n → x ≡ cellFrom row (8 * k) → g ≡ objectp (boundsOf b) x → g ≡ false
+      → Refused 16 (place + k) ≡ firstFailing (rowTests b row n place)
+  unfolding rowTests
+  cells-stop place x g l e q h = passing-stop (cellOk b row) 16 (λ j. place + j) n k w l (cell-flag x g false e q h)
 
-  pub cells-over : (place : ℕ) → n ≤ k → Fine ≡ firstFailing (cellsFrom b from n place)
-  unfolding cellsFrom
-  cells-over place l = passing-over (cellOk b from) 16 (λ j. place + j) n k w l
+  pub cells-over : (place : ℕ) → n ≤ k → Fine ≡ firstFailing (rowTests b row n place)
+  unfolding rowTests
+  cells-over place l = passing-over (cellOk b row) 16 (λ j. place + j) n k w l
 
 pub ruleset cell-walks = (passing-start, cells-next, cells-stop, cells-over, arith)

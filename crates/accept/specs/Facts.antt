@@ -54,12 +54,12 @@ pub record Passing (ok : ℕ → Bool) (n k : ℕ) : Type 0 where
   pub within : k ≤ n
   pub passed : (j : ℕ) → j < k → ok j ≡ true
 
--- cells in a row, from a byte on, the first at this place
-unfoldable pub cellOk : List ℕ → ℕ → ℕ → Bool
-cellOk b from k = objectp (boundsOf b) (cellFrom b (from + 8 * k))
+-- a row of cells, the first at this place, held against image b
+unfoldable pub cellOk : List ℕ → List ℕ → ℕ → Bool
+cellOk b row k = objectp (boundsOf b) (cellFrom row (8 * k))
 
-unfoldable pub cellsFrom : List ℕ → ℕ → ℕ → ℕ → List Test
-cellsFrom b from many place = tab (λ k. test 16 (place + k) (cellOk b from k)) many
+unfoldable pub rowTests : List ℕ → List ℕ → ℕ → ℕ → List Test
+rowTests b row many place = tab (λ k. test 16 (place + k) (cellOk b row k)) many
 
 -- ---- instructions
 

@@ -21,7 +21,7 @@ fn after_areas(image: &[u8], at: Offsets, n: Counts) -> Checked
     requires { ⌜ Laid (now image) at × Counted (now image) n × Ranged (now image) × Placed (now image) ⌝ }
     ensures { λ r. ⌜ r ≡ firstFailing (afterAreas (now (image .entry))) ⌝ }
 {
-    let first = contents::check_data(image, at, n);
+    let first = contents::check_contents(image, at, n);
     match first {
         Checked::Fine => instructions::check_all_codes(image, at, n),
         Checked::Refused { answer, place } => Checked::Refused { answer, place },

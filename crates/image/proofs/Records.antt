@@ -7,7 +7,7 @@ use lib.ListN.{length, getD, take, drop, length-drop}
 use lib.Seq.{length-take-le, getD-take, getD-drop}
 use Rattle.scope.specs.declared.Cell.{Cell}
 use Rattle.scope.specs.Cells.{u16At, cellFrom}
-use Rattle.scope.specs.Image.{word, programField, areaField, instructionAt, constantAt, dataCellAt}
+use Rattle.scope.specs.Image.{word, programField, areaField, instructionAt, constantAt}
 use Rattle.cells.specs.Rows.{cellsFrom}
 use Rattle.scope.proofs.Tabs.{tab-same}
 use Rattle.cells.proofs.Octets.{byte-same, u16-same, cell-same}
@@ -89,9 +89,6 @@ module _ (b : List ℕ) (at : Offsets) (l : Laid b at) where
     pub constant-read : (c : Cell) → AreRecords b at Constants n 1 r → c ≡ cellFrom r 0 → c ≡ constantAt b n
     constant-read c are e = e ∙ cell-of Constants n 1 r are 0 _ (omega arith) (omega (arith, l .constants-at))
 
-    pub data-read : (c : Cell) → AreRecords b at Cells n 1 r → c ≡ cellFrom r 0 → c ≡ dataCellAt b n
-    data-read c are e = e ∙ cell-of Cells n 1 r are 0 _ (omega arith) (omega (arith, l .cells-at))
-
   -- k cells in a row, from record n on
   module _ (n k : ℕ) (r : List ℕ) (s : Section) (i : ℕ) (eight : sizeOf s ≡ 8) (are : AreRecords b at s n k r) (e : i ≡ placeOf at s n) where
     pub cell-read : (j : ℕ) → j < k → cellFrom r (0 + 8 * j) ≡ cellFrom b (i + 8 * j)
@@ -101,4 +98,4 @@ module _ (b : List ℕ) (at : Offsets) (l : Laid b at) where
     unfolding cellsFrom
     cells-read = tab-same (λ j. cellFrom r (0 + 8 * j)) (λ j. cellFrom b (i + 8 * j)) k cell-read
 
-pub ruleset records = (program-read, area-read, instruction-read, constant-read, data-read)
+pub ruleset records = (program-read, area-read, instruction-read, constant-read)

@@ -5,8 +5,8 @@ ghost use lib.Dec.{eqb, ltb};
 ghost use Prim.Native.Nat.{_+_, _*_, _<_, _≤_};
 ghost use lib.ListN.{length, take, drop};
 ghost use Rattle.scope.specs.Cells.{rowOf, objectp};
-ghost use Rattle.scope.specs.Image.{word, programs, areas, instructions, constants, dataCells, programField, areaField};
-ghost use Rattle.scope.specs.Image.{instructionAt, constantAt, dataCellAt, areaLength, instructionCount};
+ghost use Rattle.scope.specs.Image.{word, programs, areas, instructions, constants, programField, areaField};
+ghost use Rattle.scope.specs.Image.{instructionAt, constantAt, areaLength, instructionCount};
 ghost use Rattle.scope.specs.Checks.{boundsOf};
 ghost use Rattle.image.specs.Laid.{countsOf, offsetsOf, Laid, Counted};
 ghost use Rattle.image.specs.View.{beginOf, sizeOf, countOf, placeOf, viewOf, AreRecords};
@@ -201,13 +201,6 @@ pub fn constant(image: &[u8], at: Offsets, k: usize) -> Cell
     ensures { λ r. ⌜ r ≡ constantAt (now (image .entry)) k ⌝ }
 {
     cells::get_from(records_at(image, at, Section::Constants, k, 1), 0)
-}
-
-pub fn data_cell(image: &[u8], at: Offsets, k: usize) -> Cell
-    requires { ⌜ Laid (now image) at × (k < dataCells (now image)) ⌝ }
-    ensures { λ r. ⌜ r ≡ dataCellAt (now (image .entry)) k ⌝ }
-{
-    cells::get_from(records_at(image, at, Section::Cells, k, 1), 0)
 }
 
 // "offset below the area's length"

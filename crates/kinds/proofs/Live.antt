@@ -22,11 +22,8 @@ table =
     ∷ 0 ∷ 0 ∷ 0 ∷ 0 ∷ 0 ∷ 0 ∷ 0 ∷ 0 ∷ 0 ∷ 0 ∷ 0 ∷ 0 ∷ 0 ∷ 0 ∷ 0 ∷ 0 ∷ 0 ∷ 0 ∷ 0 ∷ 0 ∷ 0 ∷ 0 ∷ 0 ∷ 0 ∷ 0 ∷ 0 ∷ 0 ∷ 0 ∷ 0 ∷ 0 ∷ 0 ∷ 0
     ∷ 0 ∷ 0 ∷ 0 ∷ 0 ∷ 0 ∷ 0 ∷ 0 ∷ 0 ∷ 0 ∷ 0 ∷ 0 ∷ 0 ∷ 0 ∷ 0 ∷ 0 ∷ 0 ∷ 0 ∷ 0 ∷ 0 ∷ 0 ∷ 0 ∷ 0 ∷ 0 ∷ 0 ∷ 0 ∷ 0 ∷ 0 ∷ 0 ∷ 0 ∷ 0 ∷ 0 ∷ 0 ∷ []
 
-abbrev live : ℕ → Bool
-live code = leb 1 code && leb code 36
-
 right : ℕ → ℕ → Bool
-right code kind = eqb kind (kindOf code) && Bool·beq (ltb 0 kind) (live code)
+right code kind = eqb kind (kindOf code) && Bool·beq (ltb 0 kind) (leb 1 code && leb code 36)
 
 test : (code : ℕ) → code < 256 → right code (getD table code 0) ≡ true
 unfolding table right kindOf
@@ -43,7 +40,7 @@ beq false true e = clash e
 beq false false e = refl
 
 -- "kind zero exactly for 0 and 37 to 255"
-pub live-exactly : (code : ℕ) → code < 256 → ltb 0 (kindOf code) ≡ live code
+pub live-exactly : (code : ℕ) → code < 256 → ltb 0 (kindOf code) ≡ leb 1 code && leb code 36
 unfolding right
 live-exactly code h =
     ap (ltb 0) (sym (entry code h)) ∙ beq _ _ (and-both (eqb (getD table code 0) (kindOf code)) _ (test code h) .1)

@@ -1,15 +1,12 @@
+-- `accept::after_areas` meets its contract. Assumes nothing.
 use Rattle.scope.proofs.Tests.{chain}
 use Rattle.accept.specs.Facts.{afterAreas}
 use borrow.Author.Needs.{needs}
 use Rattle.accept.proofs.after_areas.Statement.{statement}
 use Rattle.accept.proofs.after_areas.Tie as tie
-use Rattle.accept.proofs.after_areas.Reads as reads
-use Rattle.accept.proofs.after_areas.Lts as lts
-use Rattle.accept.proofs.instructions.check_all_codes.Reads as check-all-codes-reads
-use Rattle.accept.proofs.contents.check_data.Reads as check-data-reads
 
-check-data-requires : tie.Need-check-data-requires
-check-data-requires c κs = search needs
+check-contents-requires : tie.Need-check-contents-requires
+check-contents-requires c κs = search needs
 
 enum-told : tie.Need-enum-told
 enum-told c = search needs
@@ -32,7 +29,7 @@ pub after-areas-spec : {M : Type 1} → statement M
 after-areas-spec =
     tie.close
     (tie.spec
-    check-data-requires
+    check-contents-requires
     enum-told
     check-all-codes-requires
     enum-known-first

@@ -1,13 +1,10 @@
+-- `accept::after_length` meets its contract. Assumes nothing.
 use Rattle.scope.proofs.Tests.{chain}
 use Rattle.accept.proofs.Chain.{ranged}
 use Rattle.accept.specs.Facts.{afterLength}
 use borrow.Author.Needs.{needs}
 use Rattle.accept.proofs.after_length.Statement.{statement}
 use Rattle.accept.proofs.after_length.Tie as tie
-use Rattle.accept.proofs.after_length.Reads as reads
-use Rattle.accept.proofs.after_length.Lts as lts
-use Rattle.accept.proofs.after_ranges.Reads as after-ranges-reads
-use Rattle.accept.proofs.header.check_ranges.Reads as check-ranges-reads
 
 check-ranges-requires : tie.Need-check-ranges-requires
 check-ranges-requires c κs = search needs

@@ -1,12 +1,9 @@
+-- `accept::after_programs` meets its contract. Assumes nothing.
 use Rattle.scope.proofs.Tests.{chain}
 use Rattle.accept.specs.Facts.{afterPrograms}
 use borrow.Author.Needs.{needs}
 use Rattle.accept.proofs.after_programs.Statement.{statement}
 use Rattle.accept.proofs.after_programs.Tie as tie
-use Rattle.accept.proofs.after_programs.Reads as reads
-use Rattle.accept.proofs.after_programs.Lts as lts
-use Rattle.accept.proofs.after_areas.Reads as after-areas-reads
-use Rattle.accept.proofs.records.check_areas.Reads as check-areas-reads
 
 check-areas-requires : tie.Need-check-areas-requires
 check-areas-requires c κs = search needs

@@ -1,15 +1,10 @@
+-- `accept::after_ranges` meets its contract. Assumes nothing.
 use Rattle.scope.proofs.Tests.{chain}
 use Rattle.accept.proofs.Chain.{counted, joined, laid}
 use Rattle.accept.specs.Facts.{afterRanges}
 use borrow.Author.Needs.{needs}
 use Rattle.accept.proofs.after_ranges.Statement.{statement}
 use Rattle.accept.proofs.after_ranges.Tie as tie
-use Rattle.accept.proofs.after_ranges.Reads as reads
-use Rattle.accept.proofs.after_ranges.Lts as lts
-use Rattle.accept.proofs.after_sections.Reads as after-sections-reads
-use Rattle.accept.proofs.header.check_sections.Reads as check-sections-reads
-use Rattle.image.proofs.read_counts.Reads as read-counts-reads
-use Rattle.image.proofs.read_offsets.Reads as read-offsets-reads
 
 read-counts-requires : tie.Need-read-counts-requires
 read-counts-requires c κs = search needs

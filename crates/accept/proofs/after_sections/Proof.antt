@@ -1,13 +1,10 @@
+-- `accept::after_sections` meets its contract. Assumes nothing.
 use Rattle.scope.proofs.Tests.{chain}
 use Rattle.accept.proofs.Chain.{placed}
 use Rattle.accept.specs.Facts.{afterSections}
 use borrow.Author.Needs.{needs}
 use Rattle.accept.proofs.after_sections.Statement.{statement}
 use Rattle.accept.proofs.after_sections.Tie as tie
-use Rattle.accept.proofs.after_sections.Reads as reads
-use Rattle.accept.proofs.after_sections.Lts as lts
-use Rattle.accept.proofs.after_programs.Reads as after-programs-reads
-use Rattle.accept.proofs.records.check_programs.Reads as check-programs-reads
 
 check-programs-requires : tie.Need-check-programs-requires
 check-programs-requires c κs = search needs

@@ -1,11 +1,8 @@
+-- `accept::check` meets its contract. Assumes nothing.
 use Rattle.accept.proofs.Chain.{lengths}
 use borrow.Author.Needs.{needs}
 use Rattle.accept.proofs.check.Statement.{statement}
 use Rattle.accept.proofs.check.Tie as tie
-use Rattle.accept.proofs.check.Reads as reads
-use Rattle.accept.proofs.check.Lts as lts
-use Rattle.accept.proofs.after_length.Reads as after-length-reads
-use Rattle.image.proofs.header_word.Reads as header-word-reads
 
 returns : tie.Need-returns
 returns c = search lengths

@@ -2,8 +2,6 @@
 use Rattle.kinds.proofs.Live.{rows}
 use Rattle.kinds.proofs.conditions.Statement.{statement}
 use Rattle.kinds.proofs.conditions.Tie as tie
-use Rattle.kinds.proofs.conditions.Reads as reads
-use Rattle.kinds.proofs.conditions.Lts as lts
 
 returns : tie.Need-returns
 returns c = search rows

@@ -1,11 +1,9 @@
+-- `accept::header::check_ranges` meets its contract. Assumes nothing.
 use Rattle.scope.specs.Checks.{ranges}
 use Rattle.scope.proofs.Tests.{tests}
 use borrow.Author.Needs.{needs}
 use Rattle.accept.proofs.header.check_ranges.Statement.{statement}
 use Rattle.accept.proofs.header.check_ranges.Tie as tie
-use Rattle.accept.proofs.header.check_ranges.Reads as reads
-use Rattle.accept.proofs.header.check_ranges.Lts as lts
-use Rattle.accept.proofs.header.in_range.Reads as in-range-reads
 
 in-range-requires : tie.Need-in-range-requires
 in-range-requires c κs = search needs

@@ -1,11 +1,9 @@
+-- `accept::header::check_sections` meets its contract. Assumes nothing.
 use Rattle.scope.proofs.Tests.{tests}
 use Rattle.accept.proofs.Fields.{by-counts, sectionsBy}
 use borrow.Author.Needs.{needs}
 use Rattle.accept.proofs.header.check_sections.Statement.{statement}
 use Rattle.accept.proofs.header.check_sections.Tie as tie
-use Rattle.accept.proofs.header.check_sections.Reads as reads
-use Rattle.accept.proofs.header.check_sections.Lts as lts
-use Rattle.accept.proofs.header.is_word.Reads as is-word-reads
 
 mul-areas : tie.Need-mul-areas
 mul-areas c = search needs

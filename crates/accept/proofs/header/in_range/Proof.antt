@@ -1,10 +1,8 @@
+-- `accept::header::in_range` meets its contract. Assumes nothing.
 use Rattle.accept.proofs.Fields.{range-tests}
 use borrow.Author.Needs.{needs}
 use Rattle.accept.proofs.header.in_range.Statement.{statement}
 use Rattle.accept.proofs.header.in_range.Tie as tie
-use Rattle.accept.proofs.header.in_range.Reads as reads
-use Rattle.accept.proofs.header.in_range.Lts as lts
-use Rattle.image.proofs.header_word.Reads as header-word-reads
 
 header-word-requires : tie.Need-header-word-requires
 header-word-requires c κs = search needs

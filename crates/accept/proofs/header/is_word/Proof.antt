@@ -1,9 +1,7 @@
+-- `accept::header::is_word` meets its contract. Assumes nothing.
 use borrow.Author.Needs.{needs}
 use Rattle.accept.proofs.header.is_word.Statement.{statement}
 use Rattle.accept.proofs.header.is_word.Tie as tie
-use Rattle.accept.proofs.header.is_word.Reads as reads
-use Rattle.accept.proofs.header.is_word.Lts as lts
-use Rattle.image.proofs.header_word.Reads as header-word-reads
 
 header-word-requires : tie.Need-header-word-requires
 header-word-requires c κs = search needs

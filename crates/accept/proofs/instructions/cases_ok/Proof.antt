@@ -1,12 +1,9 @@
+-- `accept::instructions::cases_ok` meets its contract. Assumes nothing.
 use Rattle.accept.proofs.Codes.{jump-cases}
 use Rattle.scope.specs.Checks.{casesOk}
 use borrow.Author.Needs.{needs}
 use Rattle.accept.proofs.instructions.cases_ok.Statement.{statement}
 use Rattle.accept.proofs.instructions.cases_ok.Tie as tie
-use Rattle.accept.proofs.instructions.cases_ok.Reads as reads
-use Rattle.accept.proofs.instructions.cases_ok.Lts as lts
-use Rattle.accept.proofs.instructions.is_case.Reads as is-case-reads
-use Rattle.image.proofs.constant.Reads as constant-reads
 
 cast-from : tie.Need-cast-from
 cast-from c = search needs

@@ -1,3 +1,4 @@
+-- `accept::instructions::check_code` meets its contract. Assumes nothing.
 use Prim.Native.Nat.{_-_}
 use Rattle.scope.specs.Checks.{instructionOk}
 use Rattle.accept.specs.Facts.{Passing}
@@ -5,10 +6,6 @@ use Rattle.accept.proofs.Codes.{code-walks, place-small}
 use borrow.Author.Needs.{needs}
 use Rattle.accept.proofs.instructions.check_code.Statement.{statement}
 use Rattle.accept.proofs.instructions.check_code.Tie as tie
-use Rattle.accept.proofs.instructions.check_code.Reads as reads
-use Rattle.accept.proofs.instructions.check_code.Lts as lts
-use Rattle.accept.proofs.instructions.parts_ok.Reads as parts-ok-reads
-use Rattle.image.proofs.instruction.Reads as instruction-reads
 
 abbrev Inv-loop : tie.InvT-loop
 Inv-loop image at n runs kinds bounds q o₀ o = Passing (instructionOk image (q .program)) (q .count) o

@@ -1,12 +1,10 @@
+-- `accept::instructions::check_codes` meets its contract. Assumes nothing.
 use Prim.Native.Nat.{_-_}
 use Rattle.accept.specs.Facts.{Through}
 use Rattle.accept.proofs.Chain.{codes}
 use borrow.Author.Needs.{needs}
 use Rattle.accept.proofs.instructions.check_codes.Statement.{statement}
 use Rattle.accept.proofs.instructions.check_codes.Tie as tie
-use Rattle.accept.proofs.instructions.check_codes.Reads as reads
-use Rattle.accept.proofs.instructions.check_codes.Lts as lts
-use Rattle.accept.proofs.instructions.check_program.Reads as check-program-reads
 
 abbrev Inv-loop : tie.InvT-loop
 Inv-loop image at n runs kinds p₀ p = Through image (n .programs) p

@@ -1,12 +1,8 @@
+-- `accept::instructions::check_program` meets its contract. Assumes nothing.
 use Rattle.accept.proofs.Chain.{codes}
 use borrow.Author.Needs.{needs}
 use Rattle.accept.proofs.instructions.check_program.Statement.{statement}
 use Rattle.accept.proofs.instructions.check_program.Tie as tie
-use Rattle.accept.proofs.instructions.check_program.Reads as reads
-use Rattle.accept.proofs.instructions.check_program.Lts as lts
-use Rattle.accept.proofs.instructions.bounds_by.Reads as bounds-by-reads
-use Rattle.accept.proofs.instructions.check_code.Reads as check-code-reads
-use Rattle.accept.proofs.instructions.read_own.Reads as read-own-reads
 
 read-own-requires : tie.Need-read-own-requires
 read-own-requires c κs = search needs

@@ -1,3 +1,4 @@
+-- `accept::instructions::fill_runs` meets its contract. Assumes nothing.
 use mathlib.Core.Path.{_≡_}
 use lib.ListN.{length}
 use Prim.Native.Nat.{_≤_}
@@ -6,9 +7,6 @@ use Rattle.accept.proofs.Codes.{runs-none, runs-here, runs-down, runs-e
 use borrow.Author.Needs.{needs}
 use Rattle.accept.proofs.instructions.fill_runs.Statement.{statement}
 use Rattle.accept.proofs.instructions.fill_runs.Tie as tie
-use Rattle.accept.proofs.instructions.fill_runs.Reads as reads
-use Rattle.accept.proofs.instructions.fill_runs.Lts as lts
-use Rattle.accept.proofs.instructions.run_at.Reads as run-at-reads
 
 abbrev Inv-loop : tie.InvT-loop
 Inv-loop image at n runs₀ k₀ runs k = (k ≤ n .constants) × RunsFrom image runs k × (length runs ≡ length runs₀)

@@ -1,9 +1,8 @@
+-- `accept::instructions::is_case` meets its contract. Assumes nothing.
 use Rattle.scope.proofs.Bools.{clauses}
 use borrow.Author.Needs.{needs}
 use Rattle.accept.proofs.instructions.is_case.Statement.{statement}
 use Rattle.accept.proofs.instructions.is_case.Tie as tie
-use Rattle.accept.proofs.instructions.is_case.Reads as reads
-use Rattle.accept.proofs.instructions.is_case.Lts as lts
 
 cast-result : tie.Need-cast-result
 cast-result c = search needs

@@ -1,14 +1,9 @@
+-- `accept::instructions::kind_ok` meets its contract. Assumes nothing.
 use Rattle.accept.specs.Facts.{kindOk}
 use Rattle.scope.proofs.Bools.{clauses}
 use borrow.Author.Needs.{needs}
 use Rattle.accept.proofs.instructions.kind_ok.Statement.{statement}
 use Rattle.accept.proofs.instructions.kind_ok.Tie as tie
-use Rattle.accept.proofs.instructions.kind_ok.Reads as reads
-use Rattle.accept.proofs.instructions.kind_ok.Lts as lts
-use Rattle.accept.proofs.instructions.last_ok.Reads as last-ok-reads
-use Rattle.accept.proofs.instructions.operand_bound.Reads as operand-bound-reads
-use Rattle.accept.proofs.instructions.second_ok.Reads as second-ok-reads
-use Rattle.kinds.proofs.conditions.Reads as conditions-reads
 
 conditions-requires : tie.Need-conditions-requires
 conditions-requires c κs = search needs

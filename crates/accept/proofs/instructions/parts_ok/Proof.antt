@@ -1,10 +1,8 @@
+-- `accept::instructions::parts_ok` meets its contract. Assumes nothing.
 use Rattle.accept.proofs.Codes.{by-kind}
 use borrow.Author.Needs.{needs}
 use Rattle.accept.proofs.instructions.parts_ok.Statement.{statement}
 use Rattle.accept.proofs.instructions.parts_ok.Tie as tie
-use Rattle.accept.proofs.instructions.parts_ok.Reads as reads
-use Rattle.accept.proofs.instructions.parts_ok.Lts as lts
-use Rattle.accept.proofs.instructions.kind_ok.Reads as kind-ok-reads
 
 cast-kind : tie.Need-cast-kind
 cast-kind c = search needs

@@ -1,9 +1,7 @@
+-- `accept::instructions::read_own` meets its contract. Assumes nothing.
 use borrow.Author.Needs.{needs}
 use Rattle.accept.proofs.instructions.read_own.Statement.{statement}
 use Rattle.accept.proofs.instructions.read_own.Tie as tie
-use Rattle.accept.proofs.instructions.read_own.Reads as reads
-use Rattle.accept.proofs.instructions.read_own.Lts as lts
-use Rattle.image.proofs.program_field.Reads as program-field-reads
 
 program-field-requires : tie.Need-program-field-requires
 program-field-requires c κs = search needs

@@ -1,13 +1,10 @@
+-- `accept::instructions::run_at` meets its contract. Assumes nothing.
 use native.Mathlib.Omega.{arith}
 use Prim.Native.Nat.{_+_}
 use Rattle.accept.proofs.Codes.{runs-at, run-small}
 use borrow.Author.Needs.{needs}
 use Rattle.accept.proofs.instructions.run_at.Statement.{statement}
 use Rattle.accept.proofs.instructions.run_at.Tie as tie
-use Rattle.accept.proofs.instructions.run_at.Reads as reads
-use Rattle.accept.proofs.instructions.run_at.Lts as lts
-use Rattle.accept.proofs.instructions.is_case.Reads as is-case-reads
-use Rattle.image.proofs.constant.Reads as constant-reads
 
 constant-requires : tie.Need-constant-requires
 constant-requires c κs = search needs

@@ -1,10 +1,8 @@
+-- `accept::instructions::second_ok` meets its contract. Assumes nothing.
 use Rattle.scope.proofs.Bools.{clauses}
 use borrow.Author.Needs.{needs}
 use Rattle.accept.proofs.instructions.second_ok.Statement.{statement}
 use Rattle.accept.proofs.instructions.second_ok.Tie as tie
-use Rattle.accept.proofs.instructions.second_ok.Reads as reads
-use Rattle.accept.proofs.instructions.second_ok.Lts as lts
-use Rattle.accept.proofs.instructions.cases_ok.Reads as cases-ok-reads
 
 cases-ok-requires : tie.Need-cases-ok-requires
 cases-ok-requires c κs = search needs

@@ -1,10 +1,8 @@
+-- `accept::records::area_ok` meets its contract. Assumes nothing.
 use Rattle.accept.proofs.Walks.{walks}
 use borrow.Author.Needs.{needs}
 use Rattle.accept.proofs.records.area_ok.Statement.{statement}
 use Rattle.accept.proofs.records.area_ok.Tie as tie
-use Rattle.accept.proofs.records.area_ok.Reads as reads
-use Rattle.accept.proofs.records.area_ok.Lts as lts
-use Rattle.image.proofs.area_field.Reads as area-field-reads
 
 area-field-requires : tie.Need-area-field-requires
 area-field-requires c κs = search needs

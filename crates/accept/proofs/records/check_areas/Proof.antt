@@ -1,3 +1,4 @@
+-- `accept::records::check_areas` meets its contract. Assumes nothing.
 use Prim.Native.Nat.{_-_}
 use Rattle.scope.specs.Image.{areaLength}
 use Rattle.scope.specs.Checks.{areaOk}
@@ -6,10 +7,6 @@ use Rattle.accept.proofs.Walks.{walks}
 use borrow.Author.Needs.{needs}
 use Rattle.accept.proofs.records.check_areas.Statement.{statement}
 use Rattle.accept.proofs.records.check_areas.Tie as tie
-use Rattle.accept.proofs.records.check_areas.Reads as reads
-use Rattle.accept.proofs.records.check_areas.Lts as lts
-use Rattle.accept.proofs.records.area_ok.Reads as area-ok-reads
-use Rattle.image.proofs.area_field.Reads as area-field-reads
 
 abbrev Inv-loop : tie.InvT-loop
 Inv-loop image at n earlier₀ a₀ earlier a = Walk (areaOk image) (areaLength image) (n .areas) a earlier

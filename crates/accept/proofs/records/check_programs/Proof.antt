@@ -1,3 +1,4 @@
+-- `accept::records::check_programs` meets its contract. Assumes nothing.
 use Prim.Native.Nat.{_-_}
 use Rattle.scope.specs.Image.{instructionCount}
 use Rattle.scope.specs.Checks.{programOk}
@@ -6,10 +7,6 @@ use Rattle.accept.proofs.Walks.{walks}
 use borrow.Author.Needs.{needs}
 use Rattle.accept.proofs.records.check_programs.Statement.{statement}
 use Rattle.accept.proofs.records.check_programs.Tie as tie
-use Rattle.accept.proofs.records.check_programs.Reads as reads
-use Rattle.accept.proofs.records.check_programs.Lts as lts
-use Rattle.accept.proofs.records.program_ok.Reads as program-ok-reads
-use Rattle.image.proofs.program_field.Reads as program-field-reads
 
 abbrev Inv-loop : tie.InvT-loop
 Inv-loop image at n earlier₀ p₀ earlier p = Walk (programOk image) (instructionCount image) (n .programs) p earlier

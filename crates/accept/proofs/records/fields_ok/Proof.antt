@@ -1,12 +1,9 @@
+-- `accept::records::fields_ok` meets its contract. Assumes nothing.
 use Rattle.accept.specs.Facts.{fieldsOk}
 use Rattle.scope.proofs.Bools.{clauses}
 use borrow.Author.Needs.{needs}
 use Rattle.accept.proofs.records.fields_ok.Statement.{statement}
 use Rattle.accept.proofs.records.fields_ok.Tie as tie
-use Rattle.accept.proofs.records.fields_ok.Reads as reads
-use Rattle.accept.proofs.records.fields_ok.Lts as lts
-use Rattle.accept.proofs.records.formals_ok.Reads as formals-ok-reads
-use Rattle.accept.proofs.records.temps_ok.Reads as temps-ok-reads
 
 returns : tie.Need-returns
 unfolding fieldsOk

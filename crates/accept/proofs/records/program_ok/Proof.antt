@@ -1,11 +1,8 @@
+-- `accept::records::program_ok` meets its contract. Assumes nothing.
 use Rattle.accept.proofs.Fields.{by-fields}
 use borrow.Author.Needs.{needs}
 use Rattle.accept.proofs.records.program_ok.Statement.{statement}
 use Rattle.accept.proofs.records.program_ok.Tie as tie
-use Rattle.accept.proofs.records.program_ok.Reads as reads
-use Rattle.accept.proofs.records.program_ok.Lts as lts
-use Rattle.accept.proofs.records.fields_ok.Reads as fields-ok-reads
-use Rattle.image.proofs.program_field.Reads as program-field-reads
 
 program-field-requires : tie.Need-program-field-requires
 program-field-requires c κs = search needs

@@ -1,9 +1,8 @@
+-- `accept::records::temps_ok` meets its contract. Assumes nothing.
 use Rattle.scope.proofs.Bools.{clauses}
 use borrow.Author.Needs.{needs}
 use Rattle.accept.proofs.records.temps_ok.Statement.{statement}
 use Rattle.accept.proofs.records.temps_ok.Tie as tie
-use Rattle.accept.proofs.records.temps_ok.Reads as reads
-use Rattle.accept.proofs.records.temps_ok.Lts as lts
 
 add-result : tie.Need-add-result
 add-result c = search needs

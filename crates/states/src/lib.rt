@@ -101,7 +101,7 @@ pub fn check_load(
 }
 
 // "report (must be A bytes)"
-fn check_length(n: Counts, report: usize) -> Checked
+fn check_report_length(n: Counts, report: usize) -> Checked
     ensures { λ r. ⌜ r ≡ firstFailing (test 18 4 (eqb report (n .areas)) ∷ []) ⌝ }
 {
     if report == n.areas {
@@ -126,7 +126,7 @@ pub fn check_report(
 {
     let lengths = check_buffers(n, areas, temporary, control);
     match lengths {
-        Checked::Fine => check_length(n, report),
+        Checked::Fine => check_report_length(n, report),
         Checked::Refused { answer, place } => Checked::Refused { answer, place },
     }
 }

@@ -10,8 +10,8 @@ check-buffers-requires c κs = search needs
 enum-told : tie.Need-enum-told
 enum-told c = search needs
 
-check-length-requires : tie.Need-check-length-requires
-check-length-requires c κs = search needs
+check-report-length-requires : tie.Need-check-report-length-requires
+check-report-length-requires c κs = search needs
 
 enum-known-lengths : tie.Need-enum-known-lengths
 enum-known-lengths c = search needs
@@ -28,7 +28,7 @@ check-report-spec =
     (tie.spec
     check-buffers-requires
     enum-told
-    check-length-requires
+    check-report-length-requires
     enum-known-lengths
     returns
     returns-2)

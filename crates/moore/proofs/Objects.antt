@@ -2,7 +2,7 @@
 -- areas' lengths make an object legal.
 use mathlib.Core.Path.{_≡_, refl, sym, ap, _∙_}
 use mathlib.Core.List.{List, [], map}
-use mathlib.Core.Bool.{Bool, true, false, _&&_, and-true, false≢true}
+use mathlib.Core.Bool.{Bool, true, false, _&&_, false≢true}
 use Prim.Native.Nat.{ℕ, suc, _^_}
 use native.Mathlib.Omega.{arith}
 use lib.Dec.{ltb, eqb}
@@ -47,11 +47,6 @@ clause-same false k r t f = refl
 pub typed : (t : ℕ) (x : Obj) (m : Text) (s : State) → p-objectp-type t x m s ≡ true → (type x ≡ t) × ProperObj m (s .areas) x
 unfolding p-objectp-type
 typed t x m s h = let e = both (eqb (type x) t) _ h in (eqb-true (type x) t (e .0), e .1)
-
--- of a legal object P-OBJECTP-TYPE asks the type alone
-pub type-only : (t : ℕ) (x : Obj) (m : Text) (s : State) → ProperObj m (s .areas) x → p-objectp-type t x m s ≡ eqb (type x) t
-unfolding p-objectp-type
-type-only t x m s h = rw (h, and-true)
 
 pub a-nat : (x : Obj) → type x ≡ NAT → x ≡ nat (natOf x)
 a-nat (nat n) h = refl

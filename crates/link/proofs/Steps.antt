@@ -39,7 +39,8 @@ use Rattle.link.proofs.Lists.{map-append, map-reverse, map-take, map-dr
 use Rattle.link.proofs.Objects.{in-area}
 use Rattle.link.proofs.Held.{length-words}
 use Rattle.scope.proofs.Formed.{Operands, area-first, area-some, live, operands}
-use Rattle.link.proofs.Texts.{program-is, ins-is, by-table, code-is, constant-is, temps-cells, case-place}
+use Rattle.scope.proofs.Holding.{program-is, ins-is, constant-is}
+use Rattle.link.proofs.Texts.{by-table, code-is, temps-cells, case-place}
 use Rattle.link.proofs.Texts.{length-in, bounded, in-text, locals-are, text-proper}
 use Rattle.link.proofs.Shapes.{words-get, ends-in, comes-to, running, settles, needs-is, pushes-is, drops-is, binary-comes, unary-comes}
 use Rattle.link.proofs.Shapes.{tests-come, local-on, data-on, returns-is}

@@ -14,7 +14,7 @@ use Rattle.moore.specs.Proper.{All, count, locals, ProperObj}
 use Rattle.moore.proofs.Texts.{ProperIns, ends, ProperText}
 use Rattle.scope.specs.declared.Cell.{Cell}
 use Rattle.scope.specs.declared.Instruction.{Instruction}
-use Rattle.scope.specs.Cells.{cellOf, cellFrom, objectOf, Bytes}
+use Rattle.scope.specs.Cells.{cellOf, objectOf, Bytes}
 use Rattle.scope.specs.Image as I
 use Rattle.scope.specs.Image.{word, programs, areas, constants, instructionCount, formals, temps, firstTemp, areaLength}
 use Rattle.scope.specs.Image.{instructionOf, constantAt, kindOf, operandBound}
@@ -23,12 +23,13 @@ use Rattle.scope.specs.Checks.{tab, boundsOf, everyCase, casesOk, WellFormed}
 use Rattle.scope.specs.Holding.{constantOf, insList, insOf, initialTemps, programOf, textOf, lengthsOf}
 use Rattle.scope.proofs.Bools.{and-both}
 use Rattle.cells.specs.Rows.{cellsFrom}
-use Rattle.scope.proofs.Tabs.{length-tab, getD-tab, map-tab, tab-same, all-tab}
+use Rattle.scope.proofs.Tabs.{length-tab, getD-tab, all-tab}
 use Rattle.cells.proofs.Laws.{fit-from}
 use Rattle.packed.specs.Packed.{tempCells}
 use Rattle.link.proofs.Lists.{AllAt, done, _&_, at-number}
-use Rattle.scope.proofs.Objects.{pc-in, cell-object}
+use Rattle.scope.proofs.Objects.{pc-in}
 use Rattle.link.proofs.Objects.{Bounded, in-program, object-legal}
+use Rattle.scope.proofs.Holding.{no-program, program-is, ins-is, temps-words}
 use Rattle.scope.proofs.Formed.{Operands, case-at, few-programs, few-areas, few-words, few-temporary, area-some, area-short}
 use Rattle.scope.proofs.Formed.{program-brief, program-starts, temps-in, live, operands, last}
 
@@ -39,37 +40,21 @@ module _ (b : List ℕ) where
   unfolding textOf
   programs-are = length-tab (programOf b) (programs b)
 
-  pub no-program : (p : ℕ) → programs b ≤ p → program (textOf b) p ≡ record { formals = 0; temps = []; code = [] }
-  unfolding program textOf
-  no-program p l =
-      List·getD-eq-default (tab (programOf b) (programs b)) (record { formals = 0; temps = []; code = [] }) {n = p}
-      (omega (arith, length-tab (programOf b) (programs b)))
-
   module _ (p : ℕ) (l : p < programs b) where
-    pub program-is : program (textOf b) p ≡ programOf b p
-    unfolding program textOf
-    program-is = getD-tab (programOf b) (programs b) p (record { formals = 0; temps = []; code = [] }) l
-
     pub formals-are : program (textOf b) p .formals ≡ formals b p
-    formals-are = ap (λ (q : Program). q .formals) program-is
+    formals-are = ap (λ (q : Program). q .formals) (program-is b p l)
 
     pub temps-are : program (textOf b) p .temps ≡ initialTemps b p
-    temps-are = ap (λ (q : Program). q .temps) program-is
+    temps-are = ap (λ (q : Program). q .temps) (program-is b p l)
 
     pub count-is : count (textOf b) p ≡ instructionCount b p
-    count-is = ap (λ (q : Program). length (q .code)) program-is ∙ length-tab (λ (o : ℕ). insOf b (instructionOf b p o)) (instructionCount b p)
+    count-is = ap (λ (q : Program). length (q .code)) (program-is b p l) ∙ length-tab (λ (o : ℕ). insOf b (instructionOf b p o)) (instructionCount b p)
 
     pub locals-are : locals (textOf b) p ≡ I.locals b p
     locals-are =
         let n : length (program (textOf b) p .temps) ≡ temps b p =
         ap length temps-are ∙ length-tab (λ (k : ℕ). constantOf b (firstTemp b p + k)) (temps b p) in
         omega (arith, formals-are)
-
-    pub ins-is : (o : ℕ) → o < instructionCount b p → insAt (textOf b) p o ≡ insOf b (instructionOf b p o)
-    unfolding insAt
-    ins-is o h =
-        ap (λ (q : Program). getD (q .code) o ret) program-is
-        ∙ getD-tab (λ (k : ℕ). insOf b (instructionOf b p k)) (instructionCount b p) o ret h
 
   -- ---- an instruction's code
 
@@ -92,17 +77,9 @@ module _ (b : List ℕ) where
 -- ---- a well-formed image's constants, temps and areas
 
 module _ (b : List ℕ) (w : WellFormed b) (y : Bytes b) where
-  pub constant-is : (k : ℕ) → k < constants b → cellOf (constantOf b k) ≡ constantAt b k
-  constant-is k l = cell-object (boundsOf b) (constantAt b k) (fit-from b (word b 9 + 8 * k) y .value) (w .every-constant k l)
-
   pub temps-cells : (p : ℕ) → p < programs b → map cellOf (initialTemps b p) ≡ tempCells b p
   unfolding tempCells cellsFrom
-  temps-cells p l =
-      map-tab cellOf (λ (k : ℕ). constantOf b (firstTemp b p + k)) (temps b p)
-      ∙ tab-same (λ (k : ℕ). cellOf (constantOf b (firstTemp b p + k))) (λ (k : ℕ). cellFrom b (word b 9 + 8 * firstTemp b p + 8 * k)) (temps b p)
-      (λ k h.
-      let e : word b 9 + 8 * (firstTemp b p + k) ≡ word b 9 + 8 * firstTemp b p + 8 * k = omega arith in
-      constant-is (firstTemp b p + k) (omega (arith, temps-in b w p l)) ∙ ap (λ (at : ℕ). cellFrom b at) e)
+  temps-cells = temps-words b w y
 
   -- JUMP-CASE: a case's place
   pc-offset : (c : Cell) → c .tag ≡ 6 → offset (objectOf 32 c) ≡ c .value

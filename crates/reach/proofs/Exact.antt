@@ -23,7 +23,8 @@ use Rattle.cells.specs.Rows.{Sized}
 use Rattle.link.proofs.Lists.{map-reverse, map-get}
 use Rattle.link.proofs.Objects.{in-area}
 use Rattle.scope.proofs.Formed.{code-in, live}
-use Rattle.link.proofs.Texts.{ins-is, constant-is, bounded, in-text}
+use Rattle.scope.proofs.Holding.{ins-is, constant-is}
+use Rattle.link.proofs.Texts.{bounded, in-text}
 use Rattle.link.proofs.Held.{Sees}
 use Rattle.link.proofs.Theorems as T
 use Rattle.link.proofs.Theorems.{cells-seen}

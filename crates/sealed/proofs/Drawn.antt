@@ -1,6 +1,6 @@
 -- In the text of a well-formed image every object that a program pushes or takes as an initial temp is a constant of the image.
 use mathlib.Core.Path.{_≡_, refl, sym, ap, _∙_}
-use mathlib.Core.List.{List, [], List·Memᴰ, List·Memᴰ·not-nil, Memᴰ·cast, map}
+use mathlib.Core.List.{List, List·Memᴰ, List·Memᴰ·not-nil, Memᴰ·cast, map}
 use Prim.Native.Nat.{ℕ, suc, _+_, _-_, _<_, _≤_}
 use native.Mathlib.Omega.{arith}
 use native.Mathlib.Decide.{decLt}
@@ -10,8 +10,9 @@ use Rattle.moore.specs.Machine.{Ins, ret, push-constant, codeOf, Program, progr
 use Rattle.scope.specs.declared.Instruction.{Instruction}
 use Rattle.scope.specs.Image.{programs, constants, instructionCount, temps, firstTemp, instructionOf}
 use Rattle.scope.specs.Checks.{tab, WellFormed}
-use Rattle.scope.specs.Holding.{constantOf, insList, insOf, programOf, textOf}
+use Rattle.scope.specs.Holding.{constantOf, insList, insOf, textOf}
 use Rattle.scope.proofs.Tabs.{getD-tab, tab-out, tab-has, tab-holds}
+use Rattle.scope.proofs.Holding.{no-program, program-is, ins-is}
 use Rattle.scope.proofs.Formed.{constant-in, temps-in}
 use Rattle.scope.specs.Sealed.{Drawn}
 
@@ -40,27 +41,14 @@ only-three b i c e =
 -- ---- the programs of the text
 
 module _ (b : List ℕ) (p : ℕ) where
-  program-in : p < programs b → program (textOf b) p ≡ programOf b p
-  unfolding program textOf
-  program-in l = getD-tab (programOf b) (programs b) p _ l
-
-  program-out : programs b ≤ p → program (textOf b) p ≡ record { formals = 0; temps = []; code = [] }
-  unfolding program textOf
-  program-out l = tab-out (programOf b) (programs b) p _ l
-
-  ins-in : (o : ℕ) → p < programs b → o < instructionCount b p → insAt (textOf b) p o ≡ insOf b (instructionOf b p o)
-  unfolding insAt
-  ins-in o l k =
-      ap (λ (q : Program). getD (q .code) o ret) (program-in l) ∙ getD-tab (λ o. insOf b (instructionOf b p o)) (instructionCount b p) o ret k
-
   ins-out : (o : ℕ) → p < programs b → instructionCount b p ≤ o → insAt (textOf b) p o ≡ ret
   unfolding insAt
   ins-out o l k =
-      ap (λ (q : Program). getD (q .code) o ret) (program-in l) ∙ tab-out (λ o. insOf b (instructionOf b p o)) (instructionCount b p) o ret k
+      ap (λ (q : Program). getD (q .code) o ret) (program-is b p l) ∙ tab-out (λ o. insOf b (instructionOf b p o)) (instructionCount b p) o ret k
 
   ins-none : (o : ℕ) → programs b ≤ p → insAt (textOf b) p o ≡ ret
   unfolding insAt
-  ins-none o l = ap (λ (q : Program). getD (q .code) o ret) (program-out l)
+  ins-none o l = ap (λ (q : Program). getD (q .code) o ret) (no-program b p l)
 
 not-ret : (j : Ins) (c : Obj) → j ≡ ret → j ≡ push-constant c → ⊥
 not-ret j c e h = let z : _≡_ {A = ℕ} 2 3 = ap codeOf (sym e ∙ h) in omega arith
@@ -71,7 +59,7 @@ module _ (b : List ℕ) (w : WellFormed b) where
     where
       by : Dec (p < programs b) → Dec (o < instructionCount b p) → List·Memᴰ c (tab (constantOf b) (constants b))
       by (yes l) (yes k) =
-          let u = only-three b (instructionOf b p o) c (sym (ins-in b p o l k) ∙ e) in
+          let u = only-three b (instructionOf b p o) c (sym (ins-is b p l o k) ∙ e) in
           Memᴰ·cast (u .1) (tab-has (constantOf b) (constants b) _ (constant-in b w p o l k (u .0)))
       by (yes l) (no k) = absurd (not-ret _ c (ins-out b p o l (omega arith)) e)
       by (no l) k = absurd (not-ret _ c (ins-none b p o (omega arith)) e)
@@ -81,9 +69,9 @@ module _ (b : List ℕ) (w : WellFormed b) where
     where
       by : Dec (p < programs b) → List·Memᴰ c (tab (constantOf b) (constants b))
       by (yes l) =
-          let u = tab-holds (λ k. constantOf b (firstTemp b p + k)) (temps b p) c (rw (program-in b p l) at h) in
+          let u = tab-holds (λ k. constantOf b (firstTemp b p + k)) (temps b p) c (rw (program-is b p l) at h) in
           Memᴰ·cast (u .2) (tab-has (constantOf b) (constants b) _ (omega (arith, temps-in b w p l, u .1)))
-      by (no l) = absurd (List·Memᴰ·not-nil (rw (program-out b p (omega arith)) at h))
+      by (no l) = absurd (List·Memᴰ·not-nil (rw (no-program b p (omega arith)) at h))
 
   pub drawn : Drawn (textOf b)
   unfolding textOf

@@ -17,7 +17,7 @@ use Rattle.scope.specs.Checks.{WellFormed}
 use Rattle.scope.specs.Reach.{Report}
 use Rattle.scope.specs.Holding.{textOf, baseOf, controlWords, statusOf, errorOf, registersOf, buffer, Keeps}
 use Rattle.scope.specs.Calls.{answerOf, Count, Runs, Reports}
-use Rattle.scope.specs.Sealed.{SameBefore, SameArea, EqualInputs, EqualEnds}
+use Rattle.scope.specs.Sealed.{Agree, Drawn, SameBefore, SameArea, EqualInputs, EqualEnds}
 use Rattle.scope.proofs.Numbers.{run-taken, report-taken}
 use Rattle.scope.proofs.Tabs.{length-tab}
 use Rattle.cells.specs.Rows.{Sized}
@@ -27,8 +27,7 @@ use Rattle.states.proofs.Lengths.{still-sized}
 use Rattle.link.proofs.Same.{same-word, area-same, same-text, same-lengths}
 use Rattle.link.proofs.Unique.{bare, AllTold, SameRest, same-rest, same-area}
 use Rattle.link.proofs.Theorems.{cells-seen, area-long, area-cell, told}
-use Rattle.scope.specs.Sealed.{Drawn}
-use Rattle.sealed.specs.Reported.{EqualBut, SealedBy}
+use Rattle.sealed.specs.Reported.{Ones, SealedBy}
 use Rattle.sealed.proofs.Drawn.{drawn}
 use Rattle.sealed.proofs.Demand.{same-count}
 use Rattle.sealed.proofs.Report.{report-agree, demand-3-report}
@@ -89,15 +88,14 @@ module _ (b b′ : List ℕ) (w : WellFormed b) (w′ : WellFormed b′) (y : By
     cells-same : area (s .areas) a ≡ area (u .areas) a → SameArea b a d d′
     cells-same e i m = first-cell i m ∙ ap (λ (x : List Obj). cellOf (getD x i none)) e ∙ sym (second-cell i m)
 
-  inputs-same : r ≡ r′ → t ≡ t′ → c ≡ c′ → (k : List ℕ) → length k ≡ areas b → ((a : ℕ) → getD k a 0 ≡ 1 → SameArea b a d d′) → EqualBut k s u
+  inputs-same : r ≡ r′ → t ≡ t′ → c ≡ c′ → (k : List ℕ) → length k ≡ areas b → ((a : ℕ) → getD k a 0 ≡ 1 → SameArea b a d d′) → Agree (Ones k) s u
   inputs-same er et ec k n h =
       record {
         prog = rest .prog;
         off = rest .off;
         ctrl = rest .ctrl;
         temp = rest .temp;
-        many = many-same;
-        cells = λ a e. objects-same a (in-report k (areas b) n a e) (h a e);
+        areas = record { many = many-same; cells = λ a e. objects-same a (in-report k (areas b) n a e) (h a e) };
         psw = rest .psw;
       }
     where
@@ -124,7 +122,7 @@ record EndAlike (b b′ k : List ℕ) (s u : State) (o o′ : Ran) (d t c d′ t
   second-kept : Keeps b′ (o′ .registers) d′ t′ c′ second
   sealed : SealedBy (textOf b) k s u first second
 
-same-registers : (k : List ℕ) (x y : State) → EqualBut k x y → registersOf x ≡ registersOf y
+same-registers : (k : List ℕ) (x y : State) → Agree (Ones k) x y → registersOf x ≡ registersOf y
 same-registers k x y e =
     λ i. record {
       program = e .prog i;
@@ -139,7 +137,7 @@ same-registers k x y e =
 -- Images that mean one text, and p-states that are equal but for cells in areas that the report on the first writes 0 for.
 module _ (b b′ : List ℕ) (r r′ : Registers) (d t c d′ t′ c′ : List ℕ) (programs : textOf b ≡ textOf b′) (before k : List ℕ) (said : Said)
     (h : Reports b r d t c before said k) (reported : h .said ≡ Fine) (s u : State) (ks : Keeps b r d t c s) (ku : Keeps b′ r′ d′ t′ c′ u)
-    (equal : EqualBut k s u) (budget : ℕ) (o o′ : Ran) (d₁ t₁ c₁ d₂ t₂ c₂ : List ℕ) (f : Runs b r d t c budget o d₁ t₁ c₁)
+    (equal : Agree (Ones k) s u) (budget : ℕ) (o o′ : Ran) (d₁ t₁ c₁ d₂ t₂ c₂ : List ℕ) (f : Runs b r d t c budget o d₁ t₁ c₁)
     (g : Runs b′ r′ d′ t′ c′ budget o′ d₂ t₂ c₂) (first-ran : f .said ≡ Fine) (second-ran : g .said ≡ Fine) where
   end-alike : EndAlike b b′ k s u o o′ d₁ t₁ c₁ d₂ t₂ c₂
   unfolding textOf
@@ -206,7 +204,7 @@ module _ (b b′ : List ℕ) (r r′ : Registers) (d t c d′ t′ c′ : List �
       let report : Report (textOf b) s k = h .done hf s (q .keeps) in
       let whole : length k ≡ areas b =
       report .long ∙ many b b′ w w′ yb yb′ (e .images) r r′ d t c d′ t′ c′ (v .1) (v′ .1) s u (q .keeps) (q′ .keeps) in
-      let equal : EqualBut k s u =
+      let equal : Agree (Ones k) s u =
       inputs-same b b′ w w′ yb yb′ (e .images) r r′ d t c d′ t′ c′ (v .1) (v′ .1) s u (q .keeps) (q′ .keeps) (e .registers) (e .temporary)
       (e .control) k whole (e .cells) in
       let a =
@@ -220,7 +218,7 @@ module _ (b b′ : List ℕ) (r r′ : Registers) (d t c d′ t′ c′ : List �
         control = a .control;
         cells = λ i one.
             cells-same b b′ w w′ yb yb′ (e .images) (o .registers) (p .registers) d₁ t₁ c₁ d₂ t₂ c₂ z₁ z₂ (a .first) (a .second) (a .first-kept)
-            (a .second-kept) i (in-report k (areas b) whole i one) (a .sealed .equal .cells i one);
+            (a .second-kept) i (in-report k (areas b) whole i one) (a .sealed .equal .areas .cells i one);
         first-kept = λ i l zero.
             cells-same b b w w yb yb (λ j m. refl) r (o .registers) d t c d₁ t₁ c₁ (v .1) z₁ s (a .first) (q .keeps) (a .first-kept) i l
             (sym (a .sealed .first i (omega (arith, whole)) zero));

@@ -40,8 +40,7 @@ use Rattle.link.proofs.Objects.{in-area}
 use Rattle.link.proofs.Held.{length-words}
 use Rattle.scope.proofs.Formed.{Operands, area-first, area-some, live, operands}
 use Rattle.scope.proofs.Holding.{program-is, ins-is, constant-is}
-use Rattle.link.proofs.Texts.{by-table, code-is, temps-cells, case-place}
-use Rattle.link.proofs.Texts.{length-in, bounded, in-text, locals-are, text-proper}
+use Rattle.link.proofs.Texts.{by-table, code-is, temps-cells, case-place, length-in, bounded, in-text, locals-are, text-proper}
 use Rattle.link.proofs.Shapes.{words-get, ends-in, comes-to, running, settles, needs-is, pushes-is, drops-is, binary-comes, unary-comes}
 use Rattle.link.proofs.Shapes.{tests-come, local-on, data-on, returns-is}
 use Rattle.link.proofs.Areas.{start, start-sum, data-get, data-set}

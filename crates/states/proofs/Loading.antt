@@ -6,8 +6,7 @@ use native.Mathlib.Omega.{arith}
 use lib.ListN.{length, drop}
 use Rattle.scope.specs.declared.Cell.{Cell}
 use Rattle.scope.specs.Cells.{cell, Bytes}
-use Rattle.scope.specs.Image.{word, areas, constants, dataCells, controlLimit, programField, temps, firstTemp}
-use Rattle.scope.specs.Image.{dataCellAt}
+use Rattle.scope.specs.Image.{word, areas, constants, dataCells, controlLimit, programField, temps, firstTemp, dataCellAt}
 use Rattle.scope.specs.Checks.{WellFormed}
 use Rattle.scope.specs.Holding.{constantOf, initialTemps, initial, inBytes, buffer, controlWords, dataWords, Holds}
 use Rattle.scope.specs.Calls.{SameLengths}

@@ -17,7 +17,7 @@ use Rattle.scope.specs.Checks.{WellFormed}
 use Rattle.scope.specs.Reach.{Report}
 use Rattle.scope.specs.Holding.{textOf, baseOf, controlWords, statusOf, errorOf, registersOf, buffer, Keeps}
 use Rattle.scope.specs.Calls.{answerOf, Count, Runs, Reports}
-use Rattle.scope.specs.Sealed.{Agree, Drawn, SameBefore, SameArea, EqualInputs, EqualEnds}
+use Rattle.scope.specs.Sealed.{Drawn, SameBefore, SameArea, EqualInputs, EqualEnds}
 use Rattle.scope.proofs.Numbers.{run-taken, report-taken}
 use Rattle.scope.proofs.Tabs.{length-tab}
 use Rattle.cells.specs.Rows.{Sized}
@@ -27,7 +27,7 @@ use Rattle.states.proofs.Lengths.{still-sized}
 use Rattle.link.proofs.Same.{same-word, area-same, same-text, same-lengths}
 use Rattle.link.proofs.Unique.{bare, AllTold, SameRest, same-rest, same-area}
 use Rattle.link.proofs.Theorems.{cells-seen, area-long, area-cell, told}
-use Rattle.sealed.specs.Reported.{Ones, SealedBy}
+use Rattle.sealed.specs.Reported.{EqualBut, SealedBy}
 use Rattle.sealed.proofs.Drawn.{drawn}
 use Rattle.sealed.proofs.Demand.{same-count}
 use Rattle.sealed.proofs.Report.{report-agree, demand-3-report}
@@ -88,7 +88,7 @@ module _ (b b′ : List ℕ) (w : WellFormed b) (w′ : WellFormed b′) (y : By
     cells-same : area (s .areas) a ≡ area (u .areas) a → SameArea b a d d′
     cells-same e i m = first-cell i m ∙ ap (λ (x : List Obj). cellOf (getD x i none)) e ∙ sym (second-cell i m)
 
-  inputs-same : r ≡ r′ → t ≡ t′ → c ≡ c′ → (k : List ℕ) → length k ≡ areas b → ((a : ℕ) → getD k a 0 ≡ 1 → SameArea b a d d′) → Agree (Ones k) s u
+  inputs-same : r ≡ r′ → t ≡ t′ → c ≡ c′ → (k : List ℕ) → length k ≡ areas b → ((a : ℕ) → getD k a 0 ≡ 1 → SameArea b a d d′) → EqualBut k s u
   inputs-same er et ec k n h =
       record {
         prog = rest .prog;
@@ -122,7 +122,7 @@ record EndAlike (b b′ k : List ℕ) (s u : State) (o o′ : Ran) (d t c d′ t
   second-kept : Keeps b′ (o′ .registers) d′ t′ c′ second
   sealed : SealedBy (textOf b) k s u first second
 
-same-registers : (k : List ℕ) (x y : State) → Agree (Ones k) x y → registersOf x ≡ registersOf y
+same-registers : (k : List ℕ) (x y : State) → EqualBut k x y → registersOf x ≡ registersOf y
 same-registers k x y e =
     λ i. record {
       program = e .prog i;
@@ -137,7 +137,7 @@ same-registers k x y e =
 -- Images that mean one text, and p-states that are equal but for cells in areas that the report on the first writes 0 for.
 module _ (b b′ : List ℕ) (r r′ : Registers) (d t c d′ t′ c′ : List ℕ) (programs : textOf b ≡ textOf b′) (before k : List ℕ) (said : Said)
     (h : Reports b r d t c before said k) (reported : h .said ≡ Fine) (s u : State) (ks : Keeps b r d t c s) (ku : Keeps b′ r′ d′ t′ c′ u)
-    (equal : Agree (Ones k) s u) (budget : ℕ) (o o′ : Ran) (d₁ t₁ c₁ d₂ t₂ c₂ : List ℕ) (f : Runs b r d t c budget o d₁ t₁ c₁)
+    (equal : EqualBut k s u) (budget : ℕ) (o o′ : Ran) (d₁ t₁ c₁ d₂ t₂ c₂ : List ℕ) (f : Runs b r d t c budget o d₁ t₁ c₁)
     (g : Runs b′ r′ d′ t′ c′ budget o′ d₂ t₂ c₂) (first-ran : f .said ≡ Fine) (second-ran : g .said ≡ Fine) where
   end-alike : EndAlike b b′ k s u o o′ d₁ t₁ c₁ d₂ t₂ c₂
   unfolding textOf
@@ -204,7 +204,7 @@ module _ (b b′ : List ℕ) (r r′ : Registers) (d t c d′ t′ c′ : List �
       let report : Report (textOf b) s k = h .done hf s (q .keeps) in
       let whole : length k ≡ areas b =
       report .long ∙ many b b′ w w′ yb yb′ (e .images) r r′ d t c d′ t′ c′ (v .1) (v′ .1) s u (q .keeps) (q′ .keeps) in
-      let equal : Agree (Ones k) s u =
+      let equal : EqualBut k s u =
       inputs-same b b′ w w′ yb yb′ (e .images) r r′ d t c d′ t′ c′ (v .1) (v′ .1) s u (q .keeps) (q′ .keeps) (e .registers) (e .temporary)
       (e .control) k whole (e .cells) in
       let a =

@@ -13,7 +13,7 @@ use Rattle.moore.specs.Proper.{All}
 use Rattle.moore.proofs.Lists.{all-at, all-of}
 use Rattle.scope.specs.Reach.{InReach, Report}
 use Rattle.scope.specs.Sealed.{Agree, Drawn}
-use Rattle.sealed.specs.Reported.{Sealed, Ones, SealedBy}
+use Rattle.sealed.specs.Reported.{Sealed, EqualBut, SealedBy}
 use Rattle.sealed.specs.Closed.{Inside, InText, InFrame, InState}
 use Rattle.sealed.proofs.Closed.{Moves, steps-move}
 use Rattle.sealed.proofs.Reach.{Every, in-state, notion}
@@ -58,7 +58,7 @@ module _ (C A : ℕ → Type 0) where
 
 -- ---- a report of s
 
--- what agrees in the areas of A agrees in those of B
+-- equal but for cells outside A, and equal in the areas of B: equal but for cells outside B
 agree-too : {A B : ℕ → Type 0} {s t : State} → ((a : ℕ) → B a → area (s .areas) a ≡ area (t .areas) a) → Agree A s t → Agree B s t
 agree-too f g =
     record { prog = g .prog; off = g .off; ctrl = g .ctrl; temp = g .temp; areas = record { many = g .areas .many; cells = f }; psw = g .psw }
@@ -75,7 +75,7 @@ module _ (m : Text) (s : State) (r : List ℕ) (k : Report m s r) where
   at-zero a l e h = omega (arith, k .one a l h)
 
   -- equal but for areas reported 0: equal in all that is not out of reach
-  not-out-agree : (t : State) → Agree (Ones r) s t → Agree (NotOut (InReach m s)) s t
+  not-out-agree : (t : State) → EqualBut r s t → Agree (NotOut (InReach m s)) s t
   not-out-agree t g = agree-too (λ a h. by a h (decLt a (length r)) (ℕ-discrete (getD r a 0) 1)) g
     where
       by : (a : ℕ) → NotOut (InReach m s) a → Dec (a < length r) → Dec (getD r a 0 ≡ 1) → area (s .areas) a ≡ area (t .areas) a
@@ -86,11 +86,11 @@ module _ (m : Text) (s : State) (r : List ℕ) (k : Report m s r) where
           ∙ sym (List·getD-eq-default (t .areas) [] {n = a} (omega (arith, k .long, g .areas .many)))
 
   -- and so in all that is in reach
-  pub report-agree : (t : State) → Agree (Ones r) s t → Agree (InReach m s) s t
+  pub report-agree : (t : State) → EqualBut r s t → Agree (InReach m s) s t
   report-agree t g = let e = not-out-agree t g in agree-too (λ a h. e .areas .cells a (λ n. n h)) e
 
 -- Demand 3 by the report: two p-states that are equal but for cells of areas reported 0 run alike for n steps, and those areas stay.
-pub demand-3-report : (m : Text) → Drawn m → (r : List ℕ) (s t : State) (n : ℕ) → Report m s r → Agree (Ones r) s t
+pub demand-3-report : (m : Text) → Drawn m → (r : List ℕ) (s t : State) (n : ℕ) → Report m s r → EqualBut r s t
     → SealedBy m r s t (P m s n) (P m t n)
 demand-3-report m w r s t n k g =
     record {

@@ -20,8 +20,9 @@ pub record Sealed (R : State → ℕ → Type 0) (s t x y : State) : Type 0 wher
 
 -- ---- in the words of a report r, one byte for each area, 1 in reach and 0 not
 
-abbrev pub Ones : List ℕ → ℕ → Type 0  -- the areas that r writes 1 for
-Ones r a = getD r a 0 ≡ 1
+-- equal but for cells in areas that r writes 0 for
+abbrev pub EqualBut : List ℕ → State → State → Type 0
+EqualBut r s t = Agree (λ a. getD r a 0 ≡ 1) s t
 
 -- from s to x the areas that r writes 0 for stay as they are
 abbrev pub Untouched : List ℕ → State → State → Type 0
@@ -30,7 +31,7 @@ Untouched r s x = (a : ℕ) → a < length r → getD r a 0 ≡ 0 → area (x .a
 -- s runs to x and t to y, and r reports what was in reach from s: both end equal but for cells in areas that r writes 0 for, with the same
 -- reports, none of which has a 1 where r has 0; and the areas that r writes 0 for are as they began
 pub record SealedBy (m : Text) (r : List ℕ) (s t x y : State) : Type 0 where
-  pub equal : Agree (Ones r) x y
+  pub equal : EqualBut r x y
   pub reports : (q : List ℕ) → Report m x q → Report m y q
   pub falls : (q : List ℕ) → Report m x q → (a : ℕ) → a < length r → getD r a 0 ≡ 0 → getD q a 0 ≡ 0
   pub first : Untouched r s x

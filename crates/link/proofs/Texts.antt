@@ -29,7 +29,7 @@ use Rattle.packed.specs.Packed.{tempCells}
 use Rattle.link.proofs.Lists.{AllAt, done, _&_, at-number}
 use Rattle.scope.proofs.Objects.{pc-in}
 use Rattle.link.proofs.Objects.{Bounded, in-program, object-legal}
-use Rattle.scope.proofs.Holding.{no-program, program-is, ins-is, temps-words}
+use Rattle.scope.proofs.Holding.{no-program, program-is, ins-is, code-of, temps-words}
 use Rattle.scope.proofs.Formed.{Operands, case-at, few-programs, few-areas, few-words, few-temporary, area-some, area-short}
 use Rattle.scope.proofs.Formed.{program-brief, program-starts, temps-in, live, operands, last}
 
@@ -58,21 +58,12 @@ module _ (b : List ℕ) where
 
   -- ---- an instruction's code
 
-  codes : (i : Instruction) → AllAt (λ (k : ℕ) (j : Ins). codeOf j ≡ k) 1 (insList b i)
-  codes i =
-      refl & refl & refl & refl & refl & refl & refl & refl & refl & refl & refl & refl
-      & refl & refl & refl & refl & refl & refl & refl & refl & refl & refl & refl & refl
-      & refl & refl & refl & refl & refl & refl & refl & refl & refl & refl & refl & refl & done
-
   -- what holds of the table's entry for each code holds of an instruction with its code
   pub by-table : (Q : ℕ → Ins → Type 0) (i : Instruction) → AllAt Q 1 (insList b i) → 0 < i .code → i .code ≤ 36 → Q (i .code) (insOf b i)
   unfolding insOf
   by-table Q i h l u =
       let e : 1 + (i .code - 1) ≡ i .code = omega arith in
       rw e at (at-number Q 1 (insList b i) (i .code - 1) ret h (omega arith))
-
-  pub code-of : (i : Instruction) → 0 < i .code → i .code ≤ 36 → codeOf (insOf b i) ≡ i .code
-  code-of i l u = by-table (λ (k : ℕ) (j : Ins). codeOf j ≡ k) i (codes i) l u
 
 -- ---- a well-formed image's constants, temps and areas
 

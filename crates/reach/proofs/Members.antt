@@ -16,7 +16,7 @@ use Rattle.scope.specs.Checks.{tab}
 use Rattle.scope.specs.Holding.{insOf, frameWords, controlWords}
 use Rattle.scope.specs.Reach.{Global, pushes, pops, sets}
 use Rattle.scope.proofs.Tabs.{tab-has, tab-holds}
-use Rattle.link.proofs.Texts.{code-of}
+use Rattle.scope.proofs.Holding.{code-of}
 use Rattle.reach.specs.Marks.{Addr, Operand, Among}
 use Rattle.reach.proofs.Laws.{global-5, global-9, global-11}
 use Rattle.reach.proofs.Parts.{global-code}

@@ -2,17 +2,18 @@
 use mathlib.Core.Path.{_≡_, refl, sym, ap, _∙_}
 use mathlib.Core.List.{List, [], _∷_, _++_, map, append-nil, append-assoc}
 use mathlib.Core.Bool.{true}
-use Prim.Native.Nat.{ℕ, zero, suc, _+_, _*_, _^_, _<_, _≤_}
+use Prim.Native.Nat.{ℕ, zero, suc, _+_, _-_, _*_, _^_, _<_, _≤_}
 use native.Mathlib.Omega.{arith}
-use lib.ListN.{getD}
+use lib.ListN.{getD, List·getD-map}
 use Rattle.moore.specs.Objects.{Obj}
-use Rattle.moore.specs.Machine.{ret, Program, program, insAt}
+use Rattle.moore.specs.Machine.{ret, codeOf, Program, program, insAt}
 use Rattle.scope.specs.declared.Cell.{Cell}
+use Rattle.scope.specs.declared.Instruction.{Instruction}
 use Rattle.scope.specs.Cells.{u16At, u32At, cellFrom, cellOf, objectp, Bytes}
 use Rattle.scope.specs.Image.{word, programs, areas, constants, dataCells, instructionCount, temps, firstTemp, firstCell, areaLength}
 use Rattle.scope.specs.Image.{instructionOf, constantAt, dataCellAt}
 use Rattle.scope.specs.Checks.{tab, sum, boundsOf, WellFormed}
-use Rattle.scope.specs.Holding.{object, constantOf, insOf, initialTemps, programOf, textOf, dataWords}
+use Rattle.scope.specs.Holding.{object, constantOf, insList, insOf, initialTemps, programOf, textOf, dataWords}
 use Rattle.scope.proofs.Tabs.{getD-tab, tab-snoc, tab-same, tab-append, tab-out, map-tab}
 use Rattle.scope.proofs.Objects.{cell-object}
 use Rattle.scope.proofs.Formed.{all-cells, area-first, area-in, temps-in}
@@ -33,6 +34,19 @@ module _ (b : List ℕ) (p : ℕ) where
     unfolding insAt
     ins-is o h =
         ap (λ (q : Program). getD (q .code) o ret) program-is ∙ getD-tab (λ k. insOf b (instructionOf b p k)) (instructionCount b p) o ret h
+
+-- ---- an instruction's code
+
+module _ (b : List ℕ) (i : Instruction) where
+  codes : map codeOf (insList b i) ≡ tab suc 36
+  codes = refl
+
+  pub code-at : (k : ℕ) → k < 36 → codeOf (getD (insList b i) k ret) ≡ suc k
+  code-at k l = sym (List·getD-map codeOf (insList b i) k ret) ∙ ap (λ (x : List ℕ). getD x k 2) codes ∙ getD-tab suc 36 k 2 l
+
+  pub code-of : 0 < i .code → i .code ≤ 36 → codeOf (insOf b i) ≡ i .code
+  unfolding insOf
+  code-of l u = omega (arith, code-at (i .code - 1) (omega arith))
 
 -- ---- cells that tell their objects
 

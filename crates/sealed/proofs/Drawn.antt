@@ -1,35 +1,31 @@
 -- In the text of a well-formed image every object that a program pushes or takes as an initial temp is a constant of the image.
-use mathlib.Core.Path.{_≡_, refl, sym, ap, _∙_}
-use mathlib.Core.List.{List, List·Memᴰ, List·Memᴰ·not-nil, Memᴰ·cast, map}
-use Prim.Native.Nat.{ℕ, suc, _+_, _-_, _<_, _≤_}
+use mathlib.Core.Path.{_≡_, sym, ap, _∙_}
+use mathlib.Core.List.{List, List·Memᴰ, List·Memᴰ·not-nil, Memᴰ·cast}
+use Prim.Native.Nat.{ℕ, _+_, _-_, _<_, _≤_}
 use native.Mathlib.Omega.{arith}
 use native.Mathlib.Decide.{decLt}
-use lib.ListN.{getD, List·getD-map}
+use lib.ListN.{getD, List·getD-eq-default}
 use Rattle.moore.specs.Objects.{Obj}
 use Rattle.moore.specs.Machine.{Ins, ret, push-constant, codeOf, Program, program, insAt}
 use Rattle.scope.specs.declared.Instruction.{Instruction}
 use Rattle.scope.specs.Image.{programs, constants, instructionCount, temps, firstTemp, instructionOf}
 use Rattle.scope.specs.Checks.{tab, WellFormed}
 use Rattle.scope.specs.Holding.{constantOf, insList, insOf, textOf}
-use Rattle.scope.proofs.Tabs.{getD-tab, tab-out, tab-has, tab-holds}
-use Rattle.scope.proofs.Holding.{no-program, program-is, ins-is}
+use Rattle.scope.proofs.Tabs.{tab-out, tab-has, tab-holds}
+use Rattle.scope.proofs.Holding.{no-program, program-is, ins-is, code-at}
 use Rattle.scope.proofs.Formed.{constant-in, temps-in}
 use Rattle.scope.specs.Sealed.{Drawn}
 
 -- ---- only code 3 pushes a constant
 
-codes : (b : List ℕ) (i : Instruction) → map codeOf (insList b i) ≡ tab suc 36
-codes b i = refl
-
 at-code : (b : List ℕ) (i : Instruction) (k : ℕ) → codeOf (getD (insList b i) k ret) ≡ 3 → k ≡ 2
 at-code b i k h = by (decLt k 36)
   where
-    e : getD (tab suc 36) k 2 ≡ 3
-    e = ap (λ (l : List ℕ). getD l k 2) (sym (codes b i)) ∙ List·getD-map codeOf (insList b i) k ret ∙ h
-
     by : Dec (k < 36) → k ≡ 2
-    by (yes l) = omega (arith, sym (getD-tab suc 36 k 2 l) ∙ e)
-    by (no l) = absurd (omega (arith, sym (tab-out suc 36 k 2 (omega arith)) ∙ e))
+    by (yes l) = omega (arith, code-at b i k l)
+    by (no l) =
+        let u : 36 ≤ k = omega arith in
+        absurd (omega (arith, ap codeOf (List·getD-eq-default (insList b i) ret {n = k} u)))
 
 only-three : (b : List ℕ) (i : Instruction) (c : Obj) → insOf b i ≡ push-constant c → (i .code ≡ 3) × (c ≡ constantOf b (i .a))
 unfolding insOf

@@ -3,9 +3,7 @@ use mathlib.Core.Path.{_≡_, refl, sym, ap, subst, _∙_}
 use mathlib.Core.List.{List, [], _∷_}
 use Prim.Native.Nat.{ℕ, _+_, _<_}
 use native.Mathlib.Omega.{arith}
-use lib.ListN.{length, getD, length-map}
-use mir.Val.{Fits}
-use mir.Syntax.{w8}
+use lib.ListN.{length, length-map}
 use Rattle.moore.specs.Objects.{Obj, none, choose}
 use Rattle.moore.specs.Machine.{Frame, State, Psw, run, halt, error, P}
 use Rattle.moore.specs.Proper.{ProperObj, ProperFrames}
@@ -17,7 +15,6 @@ use Rattle.scope.specs.Checks.{boundsOf, WellFormed}
 use Rattle.scope.specs.States.{StateOk}
 use Rattle.scope.specs.Holding.{textOf, baseOf, controlWords, statusOf, Proper, Keeps}
 use Rattle.scope.specs.Calls.{Count, answerOf}
-use Rattle.states.proofs.Lengths.{still-sized}
 use Rattle.packed.specs.Packed.{Packed, steps}
 use Rattle.link.specs.Pack.{pack, Lent}
 use Rattle.link.proofs.Lists.{map-get}
@@ -32,6 +29,7 @@ use Rattle.runs.specs.Sound.{Sound, Runnable}
 use Rattle.runs.specs.Ran as R
 use Rattle.states.proofs.Lengths.{still-sized}
 use Rattle.cells.specs.Rows.{Sized}
+use Rattle.cells.proofs.Buffers.{Octets, bytes}
 use Rattle.calls.specs.Answers.{answerOfStatus, RanWell}
 
 module _ (b : List ℕ) (w : WellFormed b) (y : Bytes b) where
@@ -98,13 +96,7 @@ module _ (b : List ℕ) (w : WellFormed b) (y : Bytes b) where
           steps-keep b w y r d t c n s g r′ d′ t′ c′ n′ (h .roomy) k (h .now),
         )
 
--- ---- in the terms of the code: a slice's elements fit a byte
-
-abbrev Octets : List ℕ → Type 0
-Octets x = (m : ℕ) → Fits w8 (getD x m 0)
-
-bytes : (x : List ℕ) → Octets x → Bytes x
-bytes x h m = h m .fits
+-- ---- in the terms of the code
 
 lent : (b d t c : List ℕ) → Octets d → Octets t → Octets c → Sized b d t c → Lent b d t c
 lent b d t c od ot oc z =

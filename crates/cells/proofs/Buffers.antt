@@ -7,12 +7,21 @@ use native.Mathlib.Omega.{arith}
 use native.Mathlib.Decide.{decLt}
 use lib.ListN.{length, getD, length-append, List·getD-eq-default, replicate, length-replicate}
 use lib.Seq.{getD-append-add}
+use mir.Syntax.{w8}
+use mir.Val as Val
 use Rattle.scope.specs.declared.Cell.{Cell}
 use Rattle.scope.specs.Cells.{u16At, u32At, cellAt, bytesOf, free, Bytes}
 use Rattle.scope.specs.Holding.{inBytes, buffer}
 use Rattle.cells.specs.Rows.{cells, Fit, Fits}
 use Rattle.cells.proofs.Octets.{first-cell, cell-by-bytes}
 use Rattle.cells.proofs.Laws.{length-cells, getD-cells, are-cells, same-bytes, fits-cells}
+
+-- what the code knows of every slice: its elements fit a byte
+abbrev pub Octets : List ℕ → Type 0
+Octets x = (m : ℕ) → Val.Fits w8 (getD x m 0)
+
+pub bytes : (x : List ℕ) → Octets x → Bytes x
+bytes x o m = o m .fits
 
 -- ---- cells in bytes
 

@@ -11,6 +11,7 @@ use Rattle.scope.specs.declared.Cell.{Cell}
 use Rattle.scope.specs.Cells.{u16At, u32At, cellFrom, cellAt, bytesOf, free, Bytes}
 use Rattle.cells.specs.Rows.{putAt, cells, cellsFrom, Fit, Fits}
 use Rattle.scope.proofs.Tabs.{length-tab, getD-tab, tab-snoc, is-tab}
+use Rattle.scope.proofs.Holding.{value-small}
 use Rattle.cells.proofs.Octets.{sets-below, sets-above, sets-in, cell-of-bytes, bytes-of-cell, cell-by-bytes}
 
 -- ---- a store and a read
@@ -51,9 +52,6 @@ getD-cells n i b h = getD-tab (cellAt b) n i free h
 pub are-cells : (n : ℕ) (b : List ℕ) (cs : List Cell) → length cs ≡ n → ((i : ℕ) → i < n → cellAt b i ≡ getD cs i free) → cells n b ≡ cs
 unfolding cells
 are-cells n b cs e h = is-tab (cellAt b) n free cs e h
-
-pub same-cells : (n : ℕ) (a b : List ℕ) → ((i : ℕ) → i < n → cellAt a i ≡ cellAt b i) → cells n a ≡ cells n b
-same-cells n a b h = are-cells n a (cells n b) (length-cells n b) (λ i lt. h i lt ∙ sym (getD-cells n i b lt))
 
 pub cells-none : (b : List ℕ) → cells 0 b ≡ []
 unfolding cells
@@ -114,16 +112,11 @@ fit-from b at p =
       tag = p at;
       zero = p (at + 1);
       name = omega (arith, p (at + 2), p (at + 2 + 1));
-      value = omega (arith, p (at + 4), p (at + 4 + 1), p (at + 4 + 2), p (at + 4 + 3));
+      value = value-small b at p;
     }
 
 pub fit-cell : (b : List ℕ) (i : ℕ) → Bytes b → Fit (cellAt b i)
 fit-cell b i p = fit-from b (8 * i) p
-
-pub fits-append : (cs ds : List Cell) → Fits cs → Fits ds → Fits (cs ++ ds)
-fits-append [] ds f g i = g i
-fits-append (c ∷ cs) ds f g zero = f 0
-fits-append (c ∷ cs) ds f g (suc i) = fits-append cs ds (λ j. f (suc j)) g i
 
 pub fits-cells : (n : ℕ) (b : List ℕ) → Bytes b → Fits (cells n b)
 fits-cells n b p i = fits (decLt i n)

@@ -4,13 +4,14 @@ use mathlib.Core.List.{List}
 use mathlib.Core.Bool.{Bool, false, _&&_}
 use Prim.Native.Nat.{ℕ, _<_, _≤_}
 use native.Mathlib.Omega.{arith}
-use borrow.Author.Tests.{lt-ltb, le-ltb, eq-eqb, ne-eqb}
+use borrow.Author.Tests.{lt-ltb, eq-eqb, ne-eqb}
 use lib.Dec.{ltb, eqb}
 use Rattle.moore.specs.Objects.{choose}
 use Rattle.scope.specs.declared.Cell.{Cell}
 use Rattle.scope.specs.Cells.{rowOf, objectp}
 use Rattle.scope.specs.Image.{programs, areas, areaField, programField, areaLength, instructionCount}
 use Rattle.scope.specs.Checks.{boundsOf}
+use Rattle.scope.proofs.Bools.{and-ge}
 use Rattle.image.specs.declared.Counts.{Counts}
 use Rattle.image.specs.Laid.{Counted}
 
@@ -18,22 +19,19 @@ use Rattle.image.specs.Laid.{Counted}
 held : (name many value length found : ℕ) → name < many → found ≡ length → ltb value found ≡ ltb name many && ltb value length
 held name many value length found h e = rw (lt-ltb name many h, e)
 
-none : (name many : ℕ) (rest : Bool) → many ≤ name → false ≡ ltb name many && rest
-none name many rest h = rw (le-ltb name many h)
-
 module _ (b : List ℕ) (n : Counts) (k : Counted b n) (name value : ℕ) where
   pub area-yes : (found : ℕ) → name < n .areas → found ≡ areaField b name 1 → ltb value found ≡ ltb name (areas b) && ltb value (areaLength b name)
   area-yes found h e = held name (areas b) value (areaLength b name) found (omega (arith, k .areas-are)) e
 
   pub area-no : n .areas ≤ name → false ≡ ltb name (areas b) && ltb value (areaLength b name)
-  area-no h = none name (areas b) (ltb value (areaLength b name)) (omega (arith, k .areas-are))
+  area-no h = and-ge name (areas b) (ltb value (areaLength b name)) (omega (arith, k .areas-are))
 
   pub program-yes : (found : ℕ) → name < n .programs → found ≡ programField b name 1
       → ltb value found ≡ ltb name (programs b) && ltb value (instructionCount b name)
   program-yes found h e = held name (programs b) value (instructionCount b name) found (omega (arith, k .programs-are)) e
 
   pub program-no : n .programs ≤ name → false ≡ ltb name (programs b) && ltb value (instructionCount b name)
-  program-no h = none name (programs b) (ltb value (instructionCount b name)) (omega (arith, k .programs-are))
+  program-no h = and-ge name (programs b) (ltb value (instructionCount b name)) (omega (arith, k .programs-are))
 
 pub ruleset named = (area-yes, area-no, program-yes, program-no)
 

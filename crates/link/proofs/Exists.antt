@@ -1,7 +1,7 @@
 -- A well-formed state is a proper p-state, held: frames from the control words, objects from the cells, areas from the data. And load's
 -- p-state is proper. Assumes nothing.
 use mathlib.Core.Path.{_≡_, refl, sym, ap, _∙_}
-use mathlib.Core.List.{List, [], _∷_, _++_, map, append-assoc, append-nil}
+use mathlib.Core.List.{List, [], _∷_, _++_, map}
 use mathlib.Core.Bool.{true}
 use Prim.Native.Nat.{ℕ, zero, suc, _+_, _*_, _<_, _≤_}
 use native.Mathlib.Omega.{arith}
@@ -16,11 +16,11 @@ use Rattle.scope.specs.Cells.{cell, cellAt, cellOf, objectp, Bytes}
 use Rattle.scope.specs.Image as I
 use Rattle.scope.specs.Image.{word, programs, areas, dataCells, controlLimit, temporaryLimit, instructionCount, temps, firstTemp, firstCell}
 use Rattle.scope.specs.Image.{areaLength, instructionOf, dataCellAt}
-use Rattle.scope.specs.Checks.{tab, sum, boundsOf, WellFormed}
+use Rattle.scope.specs.Checks.{tab, boundsOf, WellFormed}
 use Rattle.scope.specs.States.{Frames, bottom, above, Objects, StateOk}
 use Rattle.scope.specs.Holding.{object, constantOf, textOf, initial, baseOf, controlWords, dataWords, statusOf, errorOf, lengthsOf, Proper}
 use Rattle.cells.specs.Rows.{cells}
-use Rattle.scope.proofs.Tabs.{length-tab, tab-snoc, map-tab, tab-same, tab-append, all-tab}
+use Rattle.scope.proofs.Tabs.{length-tab, map-tab, tab-same, tab-append, all-tab}
 use Rattle.cells.proofs.Laws.{length-cells, cells-none, fit-cell, fit-from}
 use Rattle.stacks.specs.Stack.{room, stk}
 use Rattle.stacks.proofs.Laws.{length-stk}
@@ -28,13 +28,9 @@ use Rattle.link.specs.Pack.{Lent, Kept}
 use Rattle.scope.proofs.Objects.{pc-in, cell-object}
 use Rattle.link.proofs.Objects.{Good, object-legal}
 use Rattle.link.proofs.Held.{length-words, Sees, sees-holds}
-use Rattle.scope.proofs.Formed.{some-program, all-cells, area-first, area-in, program-starts, temps-in, no-formals}
+use Rattle.scope.proofs.Holding.{tab-back, areas-words}
+use Rattle.scope.proofs.Formed.{some-program, area-in, program-starts, temps-in, no-formals}
 use Rattle.link.proofs.Texts.{count-is, locals-are, bounded, constant-legal, code-is}
-
--- the areas one behind the other, one more at the end
-words-snoc : (d : List (List Obj)) (x : List Obj) → dataWords (d ++ (x ∷ [])) ≡ dataWords d ++ map cellOf x
-words-snoc [] x = append-nil (map cellOf x)
-words-snoc (a ∷ d) x = ap (λ (l : List Cell). map cellOf a ++ l) (words-snoc d x) ∙ sym (append-assoc (map cellOf a) (dataWords d) (map cellOf x))
 
 -- the words of a frame at `base` with n locals
 frame-cells : (c : List ℕ) (base n : ℕ)
@@ -87,32 +83,12 @@ module _ (b : List ℕ) (w : WellFormed b) (y : Bytes b) where
     tab-legal : (f : ℕ → Cell) (n : ℕ) → ((i : ℕ) → i < n → Good (boundsOf b) (f i)) → All (ProperObj (textOf b) d) (tab (λ (i : ℕ). object (f i)) n)
     tab-legal f n g = all-tab (ProperObj (textOf b) d) (λ (i : ℕ). object (f i)) n (λ i l. legal (f i) (g i l))
 
-  tab-back : (f : ℕ → Cell) (n : ℕ) → ((i : ℕ) → i < n → Good (boundsOf b) (f i)) → map cellOf (tab (λ (i : ℕ). object (f i)) n) ≡ tab f n
-  tab-back f n g = map-tab cellOf (λ (i : ℕ). object (f i)) n ∙ tab-same (λ (i : ℕ). cellOf (object (f i))) f n (λ i l. back (f i) (g i l))
-
   module _ (f : ℕ → Cell) (g : (k : ℕ) → k < dataCells b → Good (boundsOf b) (f k)) where
     areas-legal : All (All (ProperObj (textOf b) (areasFrom f))) (areasFrom f)
     areas-legal =
         all-tab (All (ProperObj (textOf b) (areasFrom f))) (λ (a : ℕ). tab (λ (k : ℕ). object (f (firstCell b a + k))) (areaLength b a)) (areas b)
         (λ a l. tab-legal (areasFrom f) (areas-lengths f) (λ (k : ℕ). f (firstCell b a + k)) (areaLength b a)
         (λ k h. g (firstCell b a + k) (area-in b w a k l h)))
-
-    words-to : (n : ℕ) → n ≤ areas b
-        → dataWords (tab (λ (a : ℕ). tab (λ (k : ℕ). object (f (firstCell b a + k))) (areaLength b a)) n) ≡ tab f (sum (areaLength b) n)
-    words-to zero l = refl
-    words-to (suc n) l =
-        let G : ℕ → List Obj = λ (a : ℕ). tab (λ (k : ℕ). object (f (firstCell b a + k))) (areaLength b a) in
-        let e : firstCell b n ≡ sum (areaLength b) n = area-first b w n l in
-        ap dataWords (tab-snoc G n)
-        ∙ words-snoc (tab G n) (G n)
-        ∙ ap (λ (x : List Cell). x ++ map cellOf (G n)) (words-to n (omega arith))
-        ∙ ap (λ (x : List Cell). tab f (sum (areaLength b) n) ++ x)
-        (tab-back (λ (k : ℕ). f (firstCell b n + k)) (areaLength b n) (λ k h. g (firstCell b n + k) (area-in b w n k l h))
-        ∙ ap (λ (x : ℕ). tab (λ (k : ℕ). f (x + k)) (areaLength b n)) e)
-        ∙ sym (tab-append f (sum (areaLength b) n) (areaLength b n))
-
-    areas-words : dataWords (areasFrom f) ≡ tab f (dataCells b)
-    areas-words = words-to (areas b) (omega arith) ∙ ap (λ (n : ℕ). tab f n) (all-cells b w)
 
   -- ---- load's p-state
 
@@ -185,7 +161,7 @@ module _ (b : List ℕ) (w : WellFormed b) (y : Bytes b) where
         let n : ℕ = I.locals b 0 in
         let e2 : end ≡ 0 + 2 + n = omega arith in
         let back-to : map cellOf (localsFrom 0 n) ≡ tab (λ (i : ℕ). cellAt c (0 + 2 + i)) n =
-        tab-back (λ (i : ℕ). cellAt c (0 + 2 + i)) n (good-locals 0 0 end e2 g) in
+        tab-back (λ (i : ℕ). cellAt c (0 + 2 + i)) n (λ i m. back _ (good-locals 0 0 end e2 g i m)) in
         record {
           frames = record { locals = localsFrom 0 n; prog = 0; off = 0 } ∷ [];
           words = sym (ap (λ (k : ℕ). cells k c) e2 ∙ frame-cells c 0 n ∙ rw (cells-none c, pc, caller, ← back-to));
@@ -197,7 +173,7 @@ module _ (b : List ℕ) (w : WellFormed b) (y : Bytes b) where
         let lq = pc-of base q o (g base (omega arith)) pc in
         let r = frames-held q caller base below (lq .0) (λ i lt. g i (omega arith)) in
         let back-to : map cellOf (localsFrom base n) ≡ tab (λ (i : ℕ). cellAt c (base + 2 + i)) n =
-        tab-back (λ (i : ℕ). cellAt c (base + 2 + i)) n (good-locals p base end e g) in
+        tab-back (λ (i : ℕ). cellAt c (base + 2 + i)) n (λ i m. back _ (good-locals p base end e g i m)) in
         let fr : Frame = record { locals = localsFrom base n; prog = q; off = o } in
         record {
           frames = fr ∷ r .frames;
@@ -245,7 +221,7 @@ module _ (b : List ℕ) (w : WellFormed b) (y : Bytes b) where
       let rd : room d ≡ dataCells b = omega (arith, n .sized .areas) in
       let rt : room t ≡ temporaryLimit b = omega (arith, n .sized .temporary) in
       let rc : room c ≡ controlLimit b = omega (arith, n .sized .control) in
-      let ed : cells (room d) d ≡ dataWords D = ap (λ (k : ℕ). cells k d) rd ∙ sym (areas-words (cellAt d) gd) in
+      let ed : cells (room d) d ≡ dataWords D = ap (λ (k : ℕ). cells k d) rd ∙ sym (areas-words b w (cellAt d) (λ k m. back _ (gd k m))) in
       let seen-is : Sees r d t c s = record {
         cells = λ i. record {
           prog = r .program;

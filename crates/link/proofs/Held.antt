@@ -1,5 +1,5 @@
--- Registers and buffers hold a p-state exactly when the cells seen in them are its cells and all room above is free; and they hold it in
--- one way only. Assumes nothing.
+-- Registers and buffers hold a p-state exactly when the cells seen in them are its cells and all room above is free.
+-- Assumes nothing.
 use mathlib.Core.Path.{_≡_, refl, sym, ap, _∙_}
 use mathlib.Core.List.{List, [], _∷_, map, reverse, reverse-reverse}
 use Prim.Native.Nat.{ℕ, _*_, _≤_}
@@ -122,22 +122,3 @@ module _ (r : Registers) (d t c : List ℕ) (s : State) where
               (sym (reverse-stk t (r .temporary)) ∙ ap (λ (p : Packed). reverse (p .temp)) g ∙ sym (map-reverse cellOf (s .temp)));
           control = held-buffer c (r .control) bc wc (h .roomy .control) ∙ ap (λ (p : Packed). buffer (length c) (p .ctrl)) g;
         }
-
--- ---- one packing
-
--- registers and buffers are the same
-pub record Same (r : Registers) (d t c : List ℕ) (r' : Registers) (d' t' c' : List ℕ) : Type 0 where
-  pub registers : r ≡ r'
-  pub areas : d ≡ d'
-  pub temporary : t ≡ t'
-  pub control : c ≡ c'
-
-pub one-packing : {r r' : Registers} {d t c d' t' c' : List ℕ} {s : State} → Holds r d t c s → Holds r' d' t' c' s
-    → length t ≡ length t' → length c ≡ length c' → Same r d t c r' d' t' c'
-one-packing {s = s} h k et ec =
-    record {
-      registers = h .registers ∙ sym (k .registers);
-      areas = h .areas ∙ sym (k .areas);
-      temporary = h .temporary ∙ ap (λ (n : ℕ). buffer n (map cellOf (reverse (s .temp)))) et ∙ sym (k .temporary);
-      control = h .control ∙ ap (λ (n : ℕ). buffer n (controlWords (s .ctrl))) ec ∙ sym (k .control);
-    }

@@ -39,8 +39,8 @@ use Rattle.link.proofs.Lists.{map-append, map-reverse, map-take, map-dr
 use Rattle.link.proofs.Objects.{in-area}
 use Rattle.link.proofs.Held.{length-words}
 use Rattle.scope.proofs.Formed.{Operands, area-first, area-some, live, operands}
-use Rattle.link.proofs.Texts.{program-is, ins-is, by-table, code-is, constant-is, temps-cells, case-place}
-use Rattle.link.proofs.Texts.{length-in, bounded, in-text, locals-are, text-proper}
+use Rattle.scope.proofs.Holding.{program-is, ins-is, constant-is}
+use Rattle.link.proofs.Texts.{by-table, code-is, temps-cells, case-place, length-in, bounded, in-text, locals-are, text-proper}
 use Rattle.link.proofs.Shapes.{words-get, ends-in, comes-to, running, settles, needs-is, pushes-is, drops-is, binary-comes, unary-comes}
 use Rattle.link.proofs.Shapes.{tests-come, local-on, data-on, returns-is}
 use Rattle.link.proofs.Areas.{start, start-sum, data-get, data-set}
@@ -323,6 +323,7 @@ module _ (b : List ℕ) (w : WellFormed b) (y : Bytes b) (s : State) (k : Proper
   abbrev at-pc : Instruction
   at-pc = instructionOf b (s .prog) (s .off)
 
+  -- an instruction on cells is Moore's: the same clause fails, or the cells are those of the p-state after it
   packs-running : sem b at-pc (running s) ≡ comes-to (insAt m (s .prog) (s .off)) m s
   packs-running =
       let v = live b w (s .prog) (s .off) (here .0) (here .1) in
@@ -334,14 +335,6 @@ module _ (b : List ℕ) (w : WellFormed b) (y : Bytes b) (s : State) (k : Proper
 
   settles-running : settle (at-pc .code) (running s) (sem b at-pc (running s)) ≡ pack (p-step1 (insAt m (s .prog) (s .off)) m s)
   settles-running = rw (packs-running, code-at-pc) (settles s (insAt m (s .prog) (s .off)) m)
-
-  -- an instruction on cells is Moore's: the same clause fails, or the cells are those of the p-state after it
-  pub packs : s .psw ≡ run → sem b at-pc (pack s) ≡ comes-to (insAt m (s .prog) (s .off)) m s
-  packs e = ap (λ (v : Psw). sem b at-pc (packAs (statusOf v) (errorOf v) s)) e ∙ packs-running
-
-  pub settle-packs : s .psw ≡ run → settle (at-pc .code) (pack s) (sem b at-pc (pack s)) ≡ pack (p-step1 (insAt m (s .prog) (s .off)) m s)
-  settle-packs e =
-      ap (λ (v : Psw). settle (at-pc .code) (packAs (statusOf v) (errorOf v) s) (sem b at-pc (packAs (statusOf v) (errorOf v) s))) e ∙ settles-running
 
   -- one step on cells is Moore's
   pub step-packs : step b (pack s) ≡ pack (p-step m s)

@@ -6,14 +6,14 @@ use Prim.Native.Nat.{ℕ, _+_, _<_, _≤_}
 use native.Mathlib.Omega.{arith}
 use lib.ListN.{length, getD}
 use Rattle.moore.specs.Objects.{Obj, none}
-use Rattle.moore.specs.Machine.{Frame, State, area, run, p-step1, p-step, P, insAt}
+use Rattle.moore.specs.Machine.{Frame, State, area, P}
 use Rattle.moore.specs.Proper.{All, ProperObj, ProperFrames}
 use Rattle.moore.proofs.Texts.{ProperText}
 use Rattle.moore.proofs.Lists.{all-map}
 use Rattle.moore.proofs.Proper.{proper-steps}
 use Rattle.scope.specs.declared.Registers.{Registers}
 use Rattle.scope.specs.Cells.{cellAt, cellOf, free, Bytes}
-use Rattle.scope.specs.Image.{areas, controlLimit, temps, firstCell, areaLength, instructionOf}
+use Rattle.scope.specs.Image.{areas, controlLimit, temps, firstCell, areaLength}
 use Rattle.scope.specs.Checks.{boundsOf, WellFormed}
 use Rattle.scope.specs.States.{StateOk}
 use Rattle.scope.specs.Holding.{textOf, initial, dataWords, Holds, lengthsOf, Proper, Keeps}
@@ -21,23 +21,17 @@ use Rattle.scope.proofs.Formed.{area-first, area-in}
 use Rattle.cells.specs.Rows.{Sized}
 use Rattle.cells.proofs.Laws.{getD-cells}
 use Rattle.stacks.specs.Stack.{room}
-use Rattle.packed.specs.Packed.{Packed, sem, settle, step, steps, seen, Roomy}
+use Rattle.packed.specs.Packed.{Packed, steps, seen, Roomy}
 use Rattle.link.specs.Pack.{pack, Lent, Kept}
 use Rattle.link.proofs.Objects.{object-cell}
 use Rattle.link.proofs.Held as H
-use Rattle.link.proofs.Held.{Sees, Same}
+use Rattle.link.proofs.Held.{Sees}
 use Rattle.link.proofs.Areas.{start, start-sum, data-get}
 use Rattle.link.proofs.Texts as T
-use Rattle.link.proofs.Shapes.{comes-to}
 use Rattle.link.proofs.Steps as S
 use Rattle.link.proofs.Exists as E
 use Rattle.link.proofs.Formed as F
 use Rattle.link.proofs.Unique.{Told, AllTold, same-state}
-
--- Registers and buffers of given lengths hold a p-state in one way.
-pub one-packing : {r r' : Registers} {d t c d' t' c' : List ℕ} {s : State} → Holds r d t c s → Holds r' d' t' c' s
-    → length t ≡ length t' → length c ≡ length c' → Same r d t c r' d' t' c'
-one-packing = H.one-packing
 
 module _ (b : List ℕ) (w : WellFormed b) (y : Bytes b) where
   -- A well-formed image's text is proper.
@@ -50,22 +44,7 @@ module _ (b : List ℕ) (w : WellFormed b) (y : Bytes b) where
 
   -- ---- steps
 
-  -- An instruction on cells is Moore's: the same clause of its precondition fails, or it leaves the cells of the p-state after it.
-  pub packs : (s : State) → Proper b s → s .psw ≡ run
-      → sem b (instructionOf b (s .prog) (s .off)) (pack s) ≡ comes-to (insAt (textOf b) (s .prog) (s .off)) (textOf b) s
-  packs = S.packs b w y
-
-  -- So is what is made of its outcome.
-  pub settle-packs : (s : State) → Proper b s → s .psw ≡ run
-      → settle (instructionOf b (s .prog) (s .off) .code) (pack s) (sem b (instructionOf b (s .prog) (s .off)) (pack s))
-      ≡ pack (p-step1 (insAt (textOf b) (s .prog) (s .off)) (textOf b) s)
-  settle-packs = S.settle-packs b w y
-
-  -- A step on cells is Moore's step.
-  pub step-packs : (s : State) → Proper b s → step b (pack s) ≡ pack (p-step (textOf b) s)
-  step-packs = S.step-packs b w y
-
-  -- So are n steps.
+  -- n steps on cells are Moore's n steps.
   pub steps-pack : (n : ℕ) (s : State) → Proper b s → steps b (pack s) n ≡ pack (P (textOf b) s n)
   steps-pack = S.steps-pack b w y
 

@@ -33,24 +33,65 @@ use Rattle.ops.specs.Ops.{addAddr, raised, choiceOf}
 use Rattle.packed.specs.Packed.{Packed, Out, next, fails, needs, settle, seen, onward, goto, pushes, drops, madeOn, unaryOn, binaryOn}
 use Rattle.packed.specs.Packed.{placeOf, fetched, depositsOn, storesData, storesLocal, testsOn, testedOn, choosesOn, chosenOn, returns, tempCells, calls}
 use Rattle.machine.specs.Shapes.{makes, unaries, binaries, addAddrIn, fetches, puts, deposits, dataStores, localStores, jumps, passes, tests, cases}
-use Rattle.machine.specs.Did.{placedOf, stoppedOf, erredOf, returnedOf, enteredOf, frameHead, DidTemporary, DidData, DidControl, DidFrame}
+use Rattle.machine.specs.Did.{placedOf, stoppedOf, erredOf, returnedOf, enteredOf, frameHead, Did, DidTemporary, DidData, DidControl, DidFrame}
 use Rattle.machine.specs.Did.{DidRegisters, PutData, PutLocal, Left, Opened, Entered}
 use Rattle.machine.specs.Asks.{Points, Pointing, Callable, Enters}
 
+-- ---- the uppermost cells
+
+module _ (t : List ℕ) (n : ℕ) where
+  none-held : n < 1 → stk t n ≡ []
+  none-held l = by (stk t n) (length-stk t n)
+    where
+      by : (x : List Cell) → length x ≡ n → x ≡ []
+      by [] e = refl
+      by (a ∷ x) e = absurd (omega arith)
+
+  one-held : 1 ≤ n → stk t n ≡ getD (stk t n) 0 free ∷ drop 1 (stk t n)
+  one-held l = by (stk t n) (length-stk t n)
+    where
+      by : (x : List Cell) → length x ≡ n → x ≡ getD x 0 free ∷ drop 1 x
+      by [] e = absurd (omega arith)
+      by (a ∷ x) e = refl
+
+  two-held : 2 ≤ n → stk t n ≡ getD (stk t n) 0 free ∷ getD (stk t n) 1 free ∷ drop 2 (stk t n)
+  two-held l = by (stk t n) (length-stk t n)
+    where
+      by : (x : List Cell) → length x ≡ n → x ≡ getD x 0 free ∷ getD x 1 free ∷ drop 2 x
+      by [] e = absurd (omega arith)
+      by (a ∷ []) e = absurd (omega arith)
+      by (a ∷ c ∷ x) e = refl
+
+  -- what fails on no cell and on one
+  few-held : n < 2 → (f : List Cell → Out) → f [] ≡ fails 1 → ((a : Cell) → f (a ∷ []) ≡ fails 1) → f (stk t n) ≡ fails 1
+  few-held l f p q = by (stk t n) (length-stk t n)
+    where
+      by : (x : List Cell) → length x ≡ n → f x ≡ fails 1
+      by [] e = p
+      by (a ∷ []) e = q a
+      by (a ∷ c ∷ x) e = absurd (omega arith)
+
 -- ---- an error, and the next place
 
+-- by another meaning that has the same outcome
+as-did : {code : ℕ} {r q : Registers} {d t c d′ t′ c′ : List ℕ} (f g : Packed → Out) → f (seen r d t c) ≡ g (seen r d t c)
+    → Did f code r d t c q d′ t′ c′ → Did g code r d t c q d′ t′ c′
+as-did {code} {r} {q} {d} {t} {c} f g e w = record { now = w .now ∙ ap (settle code (seen r d t c)) e; roomy = w .roomy; same = w .same }
+
+-- whatever clause does not hold
+failed : (f : Packed → Out) (code : ℕ) (r q : Registers) (d t c : List ℕ) (k : ℕ) → q ≡ erredOf r code → Held t (r .temporary) → Held c (r .control)
+    → f (seen r d t c) ≡ fails k → Did f code r d t c q d t c
+unfolding settle
+failed f code r q d t c k e h g p =
+    rw e (record {
+      now = rw p;
+      roomy = record { temporary = h; control = g };
+      same = record { areas = refl; temporary = refl; control = refl };
+    })
+
 module _ (f : Packed → Out) (code : ℕ) (r q : Registers) (t : List ℕ) where
-  -- whatever clause does not hold
   fail-temporary : (k : ℕ) → q ≡ erredOf r code → Held t (r .temporary) → ((d c : List ℕ) → f (seen r d t c) ≡ fails k) → DidTemporary f code r t q t
-  unfolding settle
-  fail-temporary k e h p =
-      rw e (record {
-        all = λ d c g. record {
-          now = rw (p d c);
-          roomy = record { temporary = h; control = g };
-          same = record { areas = refl; temporary = refl; control = refl };
-        };
-      })
+  fail-temporary k e h p = record { all = λ d c g. failed f code r q d t c k e h g (p d c) }
 
   place-temporary : (t′ : List ℕ) (o m : ℕ) (x : List Cell) → q ≡ placedOf r o m → Became t t′ m x
       → ((d c : List ℕ) → f (seen r d t c) ≡ next (goto o x (seen r d t c))) → DidTemporary f code r t q t′
@@ -95,12 +136,7 @@ module _ (k code : ℕ) (r q : Registers) (t : List ℕ) where
 module _ (code : ℕ) (r q : Registers) (t t′ : List ℕ) where
   as-temporary : (f g : Packed → Out) → ((d c : List ℕ) → f (seen r d t c) ≡ g (seen r d t c)) → DidTemporary f code r t q t′
       → DidTemporary g code r t q t′
-  as-temporary f g e p =
-      record {
-        all = λ d c h.
-            let w = p .all d c h in
-            record { now = w .now ∙ ap (settle code (seen r d t c)) (e d c); roomy = w .roomy; same = w .same };
-      }
+  as-temporary f g e p = record { all = λ d c h. as-did f g (e d c) (p .all d c h) }
 
   pub one-made : (m : Made) (x : Cell) → m ≡ Is x → q ≡ placedOf r (r .offset .0 + 1) (r .temporary)
       → Became t t′ (r .temporary) (x ∷ drop 1 (stk t (r .temporary))) → DidTemporary (makes 1 m) code r t q t′
@@ -117,54 +153,25 @@ pub not-made : (code k : ℕ) (r q : Registers) (t : List ℕ) (m : Made) (j : �
 unfolding makes madeOn
 not-made code k r q t m j h e g = rw h (fail-temporary (makes k (No j)) code r q t j e g (λ d c. refl))
 
--- the cells as they stand on a list
-unary-none : (f : Cell → Made) (s : Packed) (x : List Cell) → length x < 1 → unaryOn f s x ≡ fails 1
-unfolding unaryOn
-unary-none f s [] l = refl
-unary-none f s (a ∷ x) l = absurd (omega arith)
-
-unary-one : (f : Cell → Made) (s : Packed) (x : List Cell) → 1 ≤ length x → madeOn s (drop 1 x) (f (getD x 0 free)) ≡ unaryOn f s x
-unfolding unaryOn
-unary-one f s [] l = absurd (omega arith)
-unary-one f s (a ∷ x) l = refl
-
-binary-few : (f : Cell → Cell → Made) (s : Packed) (x : List Cell) → length x < 2 → binaryOn f s x ≡ fails 1
-unfolding binaryOn
-binary-few f s [] l = refl
-binary-few f s (a ∷ []) l = refl
-binary-few f s (a ∷ b ∷ x) l = absurd (omega arith)
-
-binary-two : (f : Cell → Cell → Made) (s : Packed) (x : List Cell) → 2 ≤ length x
-    → madeOn s (drop 2 x) (f (getD x 1 free) (getD x 0 free)) ≡ binaryOn f s x
-unfolding binaryOn
-binary-two f s [] l = absurd (omega arith)
-binary-two f s (a ∷ []) l = absurd (omega arith)
-binary-two f s (a ∷ b ∷ x) l = refl
-
 module _ (code : ℕ) (r q : Registers) (t : List ℕ) where
   pub few-unary : (f : Cell → Made) → r .temporary < 1 → q ≡ erredOf r code → Held t (r .temporary) → DidTemporary (unaries f) code r t q t
-  unfolding unaries
-  few-unary f l e h =
-      fail-temporary (unaries f) code r q t 1 e h (λ d c. unary-none f _ (stk t (r .temporary)) (omega (arith, length-stk t (r .temporary))))
+  unfolding unaries unaryOn
+  few-unary f l e h = fail-temporary (unaries f) code r q t 1 e h (λ d c. rw (none-held t (r .temporary) l))
 
   pub few-binary : (f : Cell → Cell → Made) → r .temporary < 2 → q ≡ erredOf r code → Held t (r .temporary) → DidTemporary (binaries f) code r t q t
-  unfolding binaries
+  unfolding binaries binaryOn
   few-binary f l e h =
-      fail-temporary (binaries f) code r q t 1 e h (λ d c. binary-few f _ (stk t (r .temporary)) (omega (arith, length-stk t (r .temporary))))
+      fail-temporary (binaries f) code r q t 1 e h (λ d c. few-held t (r .temporary) l (binaryOn f (seen r d t c)) refl (λ a. refl))
 
   pub did-unary : (t′ : List ℕ) (f : Cell → Made) (a : Cell) (m : Made) → 1 ≤ r .temporary → a ≡ getD (stk t (r .temporary)) 0 free → m ≡ f a
       → DidTemporary (makes 1 m) code r t q t′ → DidTemporary (unaries f) code r t q t′
-  unfolding unaries makes
-  did-unary t′ f a m l e g p =
-      as-temporary code r q t t′ (makes 1 m) (unaries f)
-      (λ d c. rw (g, e) (unary-one f _ (stk t (r .temporary)) (omega (arith, length-stk t (r .temporary))))) p
+  unfolding unaries makes unaryOn
+  did-unary t′ f a m l e g p = as-temporary code r q t t′ (makes 1 m) (unaries f) (λ d c. rw (g, e, one-held t (r .temporary) l)) p
 
   pub did-binary : (t′ : List ℕ) (f : Cell → Cell → Made) (a b : Cell) (m : Made) → 2 ≤ r .temporary → a ≡ getD (stk t (r .temporary)) 0 free
       → b ≡ getD (stk t (r .temporary)) 1 free → m ≡ f b a → DidTemporary (makes 2 m) code r t q t′ → DidTemporary (binaries f) code r t q t′
-  unfolding binaries makes
-  did-binary t′ f a b m l e e1 g p =
-      as-temporary code r q t t′ (makes 2 m) (binaries f)
-      (λ d c. rw (g, e, e1) (binary-two f _ (stk t (r .temporary)) (omega (arith, length-stk t (r .temporary))))) p
+  unfolding binaries makes binaryOn
+  did-binary t′ f a b m l e e1 g p = as-temporary code r q t t′ (makes 2 m) (binaries f) (λ d c. rw (g, e, e1, two-held t (r .temporary) l)) p
 
 -- ---- ADDRs
 
@@ -211,15 +218,7 @@ add-in b n c a m h e = e ∙ raise-by n (areaLength b (c .name)) c a (eqb (c .ta
 
 module _ (f : Packed → Out) (code : ℕ) (r q : Registers) (d t : List ℕ) where
   fail-data : (k : ℕ) → q ≡ erredOf r code → Held t (r .temporary) → ((c : List ℕ) → f (seen r d t c) ≡ fails k) → DidData f code r d t q d t
-  unfolding settle
-  fail-data k e h p =
-      rw e (record {
-        all = λ c g. record {
-          now = rw (p c);
-          roomy = record { temporary = h; control = g };
-          same = record { areas = refl; temporary = refl; control = refl };
-        };
-      })
+  fail-data k e h p = record { all = λ c g. failed f code r q d t c k e h g (p c) }
 
   put-on-data : (d′ t′ : List ℕ) (k p : ℕ) (x : Cell) → PutData k p x r d t q d′ t′
       → ((c : List ℕ) → f (seen r d t c)
@@ -237,12 +236,7 @@ module _ (f : Packed → Out) (code : ℕ) (r q : Registers) (d t : List ℕ) wh
 
 as-data : (code : ℕ) (r q : Registers) (d t d′ t′ : List ℕ) (f g : Packed → Out) → ((c : List ℕ) → f (seen r d t c) ≡ g (seen r d t c))
     → DidData f code r d t q d′ t′ → DidData g code r d t q d′ t′
-as-data code r q d t d′ t′ f g e p =
-    record {
-      all = λ c h.
-          let w = p .all c h in
-          record { now = w .now ∙ ap (settle code (seen r d t c)) (e c); roomy = w .roomy; same = w .same };
-    }
+as-data code r q d t d′ t′ f g e p = record { all = λ c h. as-did f g (e c) (p .all c h) }
 
 pub put-data : (k p : ℕ) (x : Cell) (r q : Registers) (d t d′ t′ : List ℕ) → q ≡ placedOf r (r .offset .0 + 1) (r .temporary - k)
     → p < room d → Stored d d′ p x → Became t t′ (r .temporary - k) (drop k (stk t (r .temporary))) → PutData k p x r d t q d′ t′
@@ -250,31 +244,14 @@ put-data k p x r q d t d′ t′ e l s b = record { registers = e; areas = s .wo
 
 module _ (b : List ℕ) (code : ℕ) (r q : Registers) (d t : List ℕ) where
   pub few-fetch : r .temporary < 1 → q ≡ erredOf r code → Held t (r .temporary) → DidData (fetches b) code r d t q d t
-  unfolding fetches
-  few-fetch l e h =
-      fail-data (fetches b) code r q d t 1 e h (λ c. unary-none _ _ (stk t (r .temporary)) (omega (arith, length-stk t (r .temporary))))
+  unfolding fetches unaryOn
+  few-fetch l e h = fail-data (fetches b) code r q d t 1 e h (λ c. rw (none-held t (r .temporary) l))
 
   pub did-fetch : (t′ : List ℕ) (a : Cell) (m : Made) → 1 ≤ r .temporary → a ≡ getD (stk t (r .temporary)) 0 free
       → m ≡ fetched b (cells (room d) d) a → DidTemporary (makes 1 m) code r t q t′ → DidData (fetches b) code r d t q d t′
-  unfolding fetches makes
+  unfolding fetches makes unaryOn
   did-fetch t′ a m l e g p =
-      as-data code r q d t d t′ (makes 1 m) (fetches b)
-      (λ c. rw (g, e) (unary-one (fetched b (cells (room d) d)) _ (stk t (r .temporary)) (omega (arith, length-stk t (r .temporary)))))
-      (record { all = λ c h. p .all d c h })
-
-deposit-few : (b : List ℕ) (s : Packed) (x : List Cell) → length x < 2 → depositsOn b s x ≡ fails 1
-unfolding depositsOn
-deposit-few b s [] l = refl
-deposit-few b s (a ∷ []) l = refl
-deposit-few b s (a ∷ c ∷ x) l = absurd (omega arith)
-
-deposit-two : (b : List ℕ) (s : Packed) (x : List Cell) → 2 ≤ length x
-    → needs (eqb (getD x 0 free .tag) 5) 2 (next (onward (s .ctrl) (drop 2 x) (set (s .areas) (placeOf b (getD x 0 free)) (getD x 1 free)) s))
-    ≡ depositsOn b s x
-unfolding depositsOn
-deposit-two b s [] l = absurd (omega arith)
-deposit-two b s (a ∷ []) l = absurd (omega arith)
-deposit-two b s (a ∷ c ∷ x) l = refl
+      as-data code r q d t d t′ (makes 1 m) (fetches b) (λ c. rw (g, e, one-held t (r .temporary) l)) (record { all = λ c h. p .all d c h })
 
 module _ (b : List ℕ) (code : ℕ) (r q : Registers) (d t : List ℕ) where
   pub no-put : (a x : Cell) → (a .tag ≡ 5 → ⊥) → q ≡ erredOf r code → Held t (r .temporary) → DidData (puts b a x) code r d t q d t
@@ -288,42 +265,25 @@ module _ (b : List ℕ) (code : ℕ) (r q : Registers) (d t : List ℕ) where
       put-on-data (puts b a x) code r q d t d′ t′ 2 p x w (λ c. rw (eq-eqb (a .tag) 5 z, e))
 
   pub few-deposit : r .temporary < 2 → q ≡ erredOf r code → Held t (r .temporary) → DidData (deposits b) code r d t q d t
-  unfolding deposits
-  few-deposit l e h =
-      fail-data (deposits b) code r q d t 1 e h (λ c. deposit-few b _ (stk t (r .temporary)) (omega (arith, length-stk t (r .temporary))))
+  unfolding deposits depositsOn
+  few-deposit l e h = fail-data (deposits b) code r q d t 1 e h (λ c. few-held t (r .temporary) l (depositsOn b (seen r d t c)) refl (λ a. refl))
 
   pub did-deposit : (d′ t′ : List ℕ) (a x : Cell) → 2 ≤ r .temporary → a ≡ getD (stk t (r .temporary)) 0 free
       → x ≡ getD (stk t (r .temporary)) 1 free → DidData (puts b a x) code r d t q d′ t′ → DidData (deposits b) code r d t q d′ t′
-  unfolding deposits puts
-  did-deposit d′ t′ a x l g g1 p =
-      as-data code r q d t d′ t′ (puts b a x) (deposits b)
-      (λ c. rw (g, g1) (deposit-two b (seen r d t c) (stk t (r .temporary)) (omega (arith, length-stk t (r .temporary))))) p
+  unfolding deposits depositsOn puts
+  did-deposit d′ t′ a x l g g1 p = as-data code r q d t d′ t′ (puts b a x) (deposits b) (λ c. rw (g, g1, two-held t (r .temporary) l)) p
 
 -- ---- POP-GLOBAL, SET-GLOBAL
 
-data-none : (k at : ℕ) (s : Packed) (x : List Cell) → length x < 1 → storesData k at s x ≡ fails 1
-unfolding storesData
-data-none k at s [] l = refl
-data-none k at s (a ∷ x) l = absurd (omega arith)
-
-data-one : (k at : ℕ) (s : Packed) (x : List Cell) → 1 ≤ length x
-    → storesData k at s x ≡ next (onward (s .ctrl) (drop k x) (set (s .areas) at (getD x 0 free)) s)
-unfolding storesData
-data-one k at s [] l = absurd (omega arith)
-data-one k at s (a ∷ x) l = refl
-
 module _ (k p code : ℕ) (r q : Registers) (d t : List ℕ) where
   pub few-data : r .temporary < 1 → q ≡ erredOf r code → Held t (r .temporary) → DidData (dataStores k p) code r d t q d t
-  unfolding dataStores
-  few-data l e h =
-      fail-data (dataStores k p) code r q d t 1 e h (λ c. data-none k p _ (stk t (r .temporary)) (omega (arith, length-stk t (r .temporary))))
+  unfolding dataStores storesData
+  few-data l e h = fail-data (dataStores k p) code r q d t 1 e h (λ c. rw (none-held t (r .temporary) l))
 
   pub did-data : (d′ t′ : List ℕ) (x : Cell) → 1 ≤ r .temporary → x ≡ getD (stk t (r .temporary)) 0 free → PutData k p x r d t q d′ t′
       → DidData (dataStores k p) code r d t q d′ t′
-  unfolding dataStores
-  did-data d′ t′ x l g w =
-      put-on-data (dataStores k p) code r q d t d′ t′ k p x w
-      (λ c. rw g (data-one k p _ (stk t (r .temporary)) (omega (arith, length-stk t (r .temporary)))))
+  unfolding dataStores storesData
+  did-data d′ t′ x l g w = put-on-data (dataStores k p) code r q d t d′ t′ k p x w (λ c. rw (g, one-held t (r .temporary) l))
 
 -- ---- POP-LOCAL, SET-LOCAL
 
@@ -332,43 +292,22 @@ pub put-local : (k p : ℕ) (x : Cell) (r q : Registers) (t c t′ c′ : List �
     → PutLocal k p x r t c q t′ c′
 put-local k p x r q t c t′ c′ e b s l h = record { registers = e; temporary = b; control = s .words (r .control) l h }
 
-local-none : (k at : ℕ) (s : Packed) (x : List Cell) → length x < 1 → storesLocal k at s x ≡ fails 1
-unfolding storesLocal
-local-none k at s [] l = refl
-local-none k at s (a ∷ x) l = absurd (omega arith)
-
-local-one : (k at : ℕ) (s : Packed) (x : List Cell) → 1 ≤ length x
-    → storesLocal k at s x ≡ next (onward (set (s .ctrl) at (getD x 0 free)) (drop k x) (s .areas) s)
-unfolding storesLocal
-local-one k at s [] l = absurd (omega arith)
-local-one k at s (a ∷ x) l = refl
-
 fail-control : (f : Packed → Out) (code : ℕ) (r q : Registers) (t c : List ℕ) (k : ℕ) → q ≡ erredOf r code → Held t (r .temporary)
     → Held c (r .control) → ((d : List ℕ) → f (seen r d t c) ≡ fails k) → DidControl f code r t c q t c
-unfolding settle
-fail-control f code r q t c k e h g p =
-    rw e (record {
-      all = λ d. record {
-        now = rw (p d);
-        roomy = record { temporary = h; control = g };
-        same = record { areas = refl; temporary = refl; control = refl };
-      };
-    })
+fail-control f code r q t c k e h g p = record { all = λ d. failed f code r q d t c k e h g (p d) }
 
 module _ (k p code : ℕ) (r q : Registers) (t c : List ℕ) where
   pub few-local : r .temporary < 1 → q ≡ erredOf r code → Held t (r .temporary) → Held c (r .control) → DidControl (localStores k p) code r t c q t c
-  unfolding localStores
-  few-local l e h g =
-      fail-control (localStores k p) code r q t c 1 e h g
-      (λ d. local-none k p _ (stk t (r .temporary)) (omega (arith, length-stk t (r .temporary))))
+  unfolding localStores storesLocal
+  few-local l e h g = fail-control (localStores k p) code r q t c 1 e h g (λ d. rw (none-held t (r .temporary) l))
 
   pub did-local : (t′ c′ : List ℕ) (x : Cell) → 1 ≤ r .temporary → x ≡ getD (stk t (r .temporary)) 0 free → PutLocal k p x r t c q t′ c′
       → DidControl (localStores k p) code r t c q t′ c′
-  unfolding localStores settle
+  unfolding localStores storesLocal settle
   did-local t′ c′ x l g w =
       rw (w .registers) (record {
         all = λ d. record {
-          now = rw (local-one k p (seen r d t c) (stk t (r .temporary)) (omega (arith, length-stk t (r .temporary))), w .temporary .now, w .control .now, g);
+          now = rw (w .temporary .now, w .control .now, g, one-held t (r .temporary) l);
           roomy = record { temporary = w .temporary .held; control = w .control .held };
           same = record { areas = refl; temporary = w .temporary .same; control = w .control .same };
         };
@@ -376,48 +315,35 @@ module _ (k p code : ℕ) (r q : Registers) (t c : List ℕ) where
 
 -- ---- jumps
 
-pub did-jump : (o : ℕ) (r q : Registers) → q ≡ placedOf r o (r .temporary) → DidRegisters (jumps o) r q
-unfolding jumps settle
-did-jump o r q e =
+place-registers : (f : Packed → Out) (o : ℕ) (r q : Registers) → q ≡ placedOf r o (r .temporary)
+    → ((d t c : List ℕ) → f (seen r d t c) ≡ next (goto o (stk t (r .temporary)) (seen r d t c))) → DidRegisters f r q
+unfolding settle
+place-registers f o r q e p =
     rw e (record {
       all = λ code d t c g. record {
-        now = refl;
+        now = rw (p d t c);
         roomy = record { temporary = g .temporary; control = g .control };
         same = record { areas = refl; temporary = refl; control = refl };
       };
     })
+
+pub did-jump : (o : ℕ) (r q : Registers) → q ≡ placedOf r o (r .temporary) → DidRegisters (jumps o) r q
+unfolding jumps
+did-jump o r q e = place-registers (jumps o) o r q e (λ d t c. refl)
 
 pub did-pass : (r q : Registers) → q ≡ placedOf r (r .offset .0 + 1) (r .temporary) → DidRegisters passes r q
-unfolding passes settle
-did-pass r q e =
-    rw e (record {
-      all = λ code d t c g. record {
-        now = refl;
-        roomy = record { temporary = g .temporary; control = g .control };
-        same = record { areas = refl; temporary = refl; control = refl };
-      };
-    })
-
-test-none : (f : Cell → Tested) (o : ℕ) (s : Packed) (x : List Cell) → length x < 1 → testsOn f o s x ≡ fails 1
-unfolding testsOn
-test-none f o s [] l = refl
-test-none f o s (a ∷ x) l = absurd (omega arith)
-
-test-one : (f : Cell → Tested) (o : ℕ) (s : Packed) (x : List Cell) → 1 ≤ length x → testsOn f o s x ≡ testedOn s o (drop 1 x) (f (getD x 0 free))
-unfolding testsOn
-test-one f o s [] l = absurd (omega arith)
-test-one f o s (a ∷ x) l = refl
+unfolding passes
+did-pass r q e = place-registers passes (r .offset .0 + 1) r q e (λ d t c. refl)
 
 module _ (f : Cell → Tested) (o code : ℕ) (r q : Registers) (t : List ℕ) where
   pub few-test : r .temporary < 1 → q ≡ erredOf r code → Held t (r .temporary) → DidTemporary (tests f o) code r t q t
-  unfolding tests
-  few-test l e h =
-      fail-temporary (tests f o) code r q t 1 e h (λ d c. test-none f o _ (stk t (r .temporary)) (omega (arith, length-stk t (r .temporary))))
+  unfolding tests testsOn
+  few-test l e h = fail-temporary (tests f o) code r q t 1 e h (λ d c. rw (none-held t (r .temporary) l))
 
   module _ (a : Cell) (m : Tested) (l : 1 ≤ r .temporary) (g : a ≡ getD (stk t (r .temporary)) 0 free) (e : m ≡ f a) where
     tested : (d c : List ℕ) → tests f o (seen r d t c) ≡ testedOn (seen r d t c) o (drop 1 (stk t (r .temporary))) m
-    unfolding tests
-    tested d c = rw (e, g) (test-one f o (seen r d t c) (stk t (r .temporary)) (omega (arith, length-stk t (r .temporary))))
+    unfolding tests testsOn
+    tested d c = rw (e, g, one-held t (r .temporary) l)
 
     pub no-test : (k : ℕ) → m ≡ T.No k → q ≡ erredOf r code → Held t (r .temporary) → DidTemporary (tests f o) code r t q t
     unfolding testedOn
@@ -437,17 +363,6 @@ pub target-no : (holds : Bool) (o n : ℕ) → holds ≡ false → n ≡ choose 
 unfolding choose
 target-no holds o n h = rw h
 
-case-none : (b : List ℕ) (from many : ℕ) (s : Packed) (x : List Cell) → length x < 1 → choosesOn b from many s x ≡ fails 1
-unfolding choosesOn
-case-none b from many s [] l = refl
-case-none b from many s (a ∷ x) l = absurd (omega arith)
-
-case-one : (b : List ℕ) (from many : ℕ) (s : Packed) (x : List Cell) → 1 ≤ length x
-    → choosesOn b from many s x ≡ chosenOn b from s (drop 1 x) (choiceOf many (getD x 0 free))
-unfolding choosesOn
-case-one b from many s [] l = absurd (omega arith)
-case-one b from many s (a ∷ x) l = refl
-
 -- a choice is one of the cases
 pub chosen-in : (many from k n : ℕ) (a : Cell) (m : Chosen) → m ≡ choiceOf many a → m ≡ C.Is k → from + many ≤ n → from + k < n
 unfolding choiceOf choose
@@ -460,15 +375,13 @@ chosen-in many from k n a m e z l = by (eqb (a .tag) 1) (ltb (a .value) many) re
 
 module _ (b : List ℕ) (from many code : ℕ) (r q : Registers) (t : List ℕ) where
   pub few-case : r .temporary < 1 → q ≡ erredOf r code → Held t (r .temporary) → DidTemporary (cases b from many) code r t q t
-  unfolding cases
-  few-case l e h =
-      fail-temporary (cases b from many) code r q t 1 e h
-      (λ d c. case-none b from many _ (stk t (r .temporary)) (omega (arith, length-stk t (r .temporary))))
+  unfolding cases choosesOn
+  few-case l e h = fail-temporary (cases b from many) code r q t 1 e h (λ d c. rw (none-held t (r .temporary) l))
 
   module _ (a : Cell) (m : Chosen) (l : 1 ≤ r .temporary) (g : a ≡ getD (stk t (r .temporary)) 0 free) (e : m ≡ choiceOf many a) where
     cased : (d c : List ℕ) → cases b from many (seen r d t c) ≡ chosenOn b from (seen r d t c) (drop 1 (stk t (r .temporary))) m
-    unfolding cases
-    cased d c = rw (e, g) (case-one b from many (seen r d t c) (stk t (r .temporary)) (omega (arith, length-stk t (r .temporary))))
+    unfolding cases choosesOn
+    cased d c = rw (e, g, one-held t (r .temporary) l)
 
     pub no-case : (k : ℕ) → m ≡ C.No k → q ≡ erredOf r code → Held t (r .temporary) → DidTemporary (cases b from many) code r t q t
     unfolding chosenOn

@@ -2,7 +2,7 @@
 -- areas' lengths make an object legal.
 use mathlib.Core.Path.{_≡_, refl, sym, ap, _∙_}
 use mathlib.Core.List.{List, [], map}
-use mathlib.Core.Bool.{Bool, true, false, _&&_, and-true, false≢true}
+use mathlib.Core.Bool.{Bool, true, false, _&&_, false≢true}
 use Prim.Native.Nat.{ℕ, suc, _^_}
 use native.Mathlib.Omega.{arith}
 use lib.Dec.{ltb, eqb}
@@ -15,9 +15,9 @@ use Rattle.moore.specs.Proper.{ProperObj}
 
 -- ---- clauses
 
-pub both : (a b : Bool) → a && b ≡ true → (a ≡ true) × (b ≡ true)
-both true b h = (refl, h)
-both false b h = absurd (false≢true h)
+pub and-both : (a b : Bool) → a && b ≡ true → (a ≡ true) × (b ≡ true)
+and-both true b h = (refl, h)
+and-both false b h = absurd (false≢true h)
 
 pub clause : (a : Bool) (k r : ℕ) → need a (suc k) r ≡ 0 → (a ≡ true) × (r ≡ 0)
 unfolding need
@@ -33,7 +33,7 @@ pub clause-two : (t u : ℕ) (m : Text) (s : State) (r : ℕ) → two t u m s r 
 clause-two t u m s r h =
     let e = clause (has 2 s) 0 _ h in
     let d = clause _ 1 r (e .1) in
-    let b = both (p-objectp-type t (top s) m s) _ (d .0) in
+    let b = and-both (p-objectp-type t (top s) m s) _ (d .0) in
     (e .0, b .0, b .1, d .1)
 
 -- a clause is looked at only where those before it hold
@@ -46,12 +46,7 @@ clause-same false k r t f = refl
 
 pub typed : (t : ℕ) (x : Obj) (m : Text) (s : State) → p-objectp-type t x m s ≡ true → (type x ≡ t) × ProperObj m (s .areas) x
 unfolding p-objectp-type
-typed t x m s h = let e = both (eqb (type x) t) _ h in (eqb-true (type x) t (e .0), e .1)
-
--- of a legal object P-OBJECTP-TYPE asks the type alone
-pub type-only : (t : ℕ) (x : Obj) (m : Text) (s : State) → ProperObj m (s .areas) x → p-objectp-type t x m s ≡ eqb (type x) t
-unfolding p-objectp-type
-type-only t x m s h = rw (h, and-true)
+typed t x m s h = let e = and-both (eqb (type x) t) _ h in (eqb-true (type x) t (e .0), e .1)
 
 pub a-nat : (x : Obj) → type x ≡ NAT → x ≡ nat (natOf x)
 a-nat (nat n) h = refl

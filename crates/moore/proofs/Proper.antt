@@ -11,8 +11,7 @@ use lib.Signed.{mag}
 use lib.ListN.{length, getD, set, take, drop, length-set, length-drop, length-append, length-take, length-reverse}
 use borrow.Author.Tests.{ltb-true, leb-true, lt-ltb}
 use Rattle.moore.specs.Objects as O
-use Rattle.moore.specs.Objects.{Obj, nat, none, NAT, INT, ADDR, natOf, intOf}
-use Rattle.moore.specs.Objects.{negativep, choose}
+use Rattle.moore.specs.Objects.{Obj, nat, none, NAT, INT, ADDR, natOf, intOf, negativep, choose}
 use Rattle.moore.specs.Machine.{Ins, call, ret, push-constant, push-local, push-global, pop, pop*, pop-local, pop-global, set-local}
 use Rattle.moore.specs.Machine.{set-global, jump, jump-case, test-nat-and-jump, test-int-and-jump, test-bool-and-jump, no-op, eq}
 use Rattle.moore.specs.Machine.{add-addr, sub-addr, lt-addr, fetch, deposit, add-int, sub-int, neg-int, lt-int, int-to-nat, add-nat}
@@ -23,8 +22,7 @@ use Rattle.moore.specs.Machine.{p-ins-okp, p-ins-step, codeOf, p-settle,
 use Rattle.moore.specs.Proper.{All, count, ProperObj, ProperFrame, ProperFrames, ProperState}
 use Rattle.moore.proofs.Texts.{ProperIns, ends, ProperText}
 use Rattle.moore.proofs.Lists.{all-drop, all-take, all-append, all-reverse, all-set, all-getD, all-inside, all-map}
-use Rattle.moore.proofs.Objects.{clause, clause-one, clause-two, typed, a-nat, an-int, an-addr, legal-none}
-use Rattle.moore.proofs.Objects.{area-lengths, legal-lengths}
+use Rattle.moore.proofs.Objects.{clause, clause-one, clause-two, typed, a-nat, an-int, an-addr, legal-none, area-lengths, legal-lengths}
 use Rattle.moore.proofs.Areas.{fetch-all, deposit-all, deposit-lengths}
 
 -- ---- of the data segment only the lengths count

@@ -2,25 +2,18 @@
 use mathlib.Core.Path.{_≡_, refl}
 use mathlib.Core.Bool.{Bool, true, false}
 use Prim.Native.Nat.{ℕ, _<_, _≤_}
-use borrow.Author.Tests.{eq-eqb, ne-eqb, lt-ltb, le-ltb, le-leb, lt-leb}
-use lib.Dec.{ltb, leb, eqb}
+use borrow.Author.Tests.{lt-ltb, le-ltb, le-leb, lt-leb}
+use lib.Dec.{ltb, leb}
 use mir.Val.{boolByte}
 use Rattle.moore.specs.Objects.{choose}
 use Rattle.scope.specs.declared.Cell.{Cell}
 use Rattle.scope.specs.Cells.{cell}
+use Rattle.scope.proofs.Bools.{choose-eq, choose-ne}
 use Rattle.ops.specs.declared.Made.{Made}
 use Rattle.ops.specs.declared.Made.the-variants.{Is}
 use Rattle.ops.specs.Ops.{boolCell, integer}
 
 module _ {X : Type 0} (x y : ℕ) (r a b : X) where
-  pub if-eq : x ≡ y → r ≡ a → r ≡ choose (eqb x y) a b
-  unfolding choose
-  if-eq h e = rw (eq-eqb x y h) e
-
-  pub if-ne : (x ≡ y → ⊥) → r ≡ b → r ≡ choose (eqb x y) a b
-  unfolding choose
-  if-ne h e = rw (ne-eqb x y h) e
-
   pub if-lt : x < y → r ≡ a → r ≡ choose (ltb x y) a b
   unfolding choose
   if-lt h e = rw (lt-ltb x y h) e
@@ -62,6 +55,6 @@ unfolding choose
 bool-byte true = refl
 bool-byte false = refl
 
-pub ruleset clauses = (if-eq, if-ne, if-lt, if-ge, if-le, if-gt, is-made)
+pub ruleset clauses = (choose-eq, choose-ne, if-lt, if-ge, if-le, if-gt, is-made)
 
-pub ruleset flags = (if-true, if-false, if-eq, if-ne, is-made, bool-of, int-of)
+pub ruleset flags = (if-true, if-false, choose-eq, choose-ne, is-made, bool-of, int-of)

@@ -17,7 +17,7 @@ use Rattle.scope.specs.Checks.{WellFormed}
 use Rattle.scope.specs.Reach.{Report}
 use Rattle.scope.specs.Holding.{textOf, baseOf, controlWords, statusOf, errorOf, registersOf, buffer, Keeps}
 use Rattle.scope.specs.Calls.{answerOf, Count, Runs, Reports}
-use Rattle.scope.specs.Sealed.{SameBefore, SameArea, EqualInputs, EqualEnds}
+use Rattle.scope.specs.Sealed.{Drawn, SameBefore, SameArea, EqualInputs, EqualEnds}
 use Rattle.scope.proofs.Numbers.{run-taken, report-taken}
 use Rattle.scope.proofs.Tabs.{length-tab}
 use Rattle.cells.specs.Rows.{Sized}
@@ -27,7 +27,6 @@ use Rattle.states.proofs.Lengths.{still-sized}
 use Rattle.link.proofs.Same.{same-word, area-same, same-text, same-lengths}
 use Rattle.link.proofs.Unique.{bare, AllTold, SameRest, same-rest, same-area}
 use Rattle.link.proofs.Theorems.{cells-seen, area-long, area-cell, told}
-use Rattle.scope.specs.Sealed.{Drawn}
 use Rattle.sealed.specs.Reported.{EqualBut, SealedBy}
 use Rattle.sealed.proofs.Drawn.{drawn}
 use Rattle.sealed.proofs.Demand.{same-count}
@@ -96,8 +95,7 @@ module _ (b b′ : List ℕ) (w : WellFormed b) (w′ : WellFormed b′) (y : By
         off = rest .off;
         ctrl = rest .ctrl;
         temp = rest .temp;
-        many = many-same;
-        cells = λ a e. objects-same a (in-report k (areas b) n a e) (h a e);
+        areas = record { many = many-same; cells = λ a e. objects-same a (in-report k (areas b) n a e) (h a e) };
         psw = rest .psw;
       }
     where
@@ -220,7 +218,7 @@ module _ (b b′ : List ℕ) (r r′ : Registers) (d t c d′ t′ c′ : List �
         control = a .control;
         cells = λ i one.
             cells-same b b′ w w′ yb yb′ (e .images) (o .registers) (p .registers) d₁ t₁ c₁ d₂ t₂ c₂ z₁ z₂ (a .first) (a .second) (a .first-kept)
-            (a .second-kept) i (in-report k (areas b) whole i one) (a .sealed .equal .cells i one);
+            (a .second-kept) i (in-report k (areas b) whole i one) (a .sealed .equal .areas .cells i one);
         first-kept = λ i l zero.
             cells-same b b w w yb yb (λ j m. refl) r (o .registers) d t c d₁ t₁ c₁ (v .1) z₁ s (a .first) (q .keeps) (a .first-kept) i l
             (sym (a .sealed .first i (omega (arith, whole)) zero));

@@ -2,7 +2,7 @@
 -- Moore's, and it holds one only; a load that is done leaves a well-formed state, which holds the image's initial p-state; what a run or
 -- a step leaves is well-formed again.
 use mathlib.Core.Path.{_≡_, refl, sym}
-use mathlib.Core.List.{List}
+use mathlib.Core.List.{List, []}
 use mathlib.Core.Logic.{_↔_}
 use Prim.Native.Nat.{ℕ}
 use native.Mathlib.Omega.{arith}
@@ -14,10 +14,11 @@ use Rattle.scope.specs.declared.Loaded.{Loaded}
 use Rattle.scope.specs.declared.Ran.{Ran}
 use Rattle.scope.specs.declared.Registers.{Registers}
 use Rattle.scope.specs.Cells.{Bytes}
-use Rattle.scope.specs.Checks.{imageSays}
+use Rattle.scope.specs.Checks.{Test, firstFailing, imageSays}
 use Rattle.scope.specs.States.{StateOk}
 use Rattle.scope.specs.Holding.{textOf, initial, Keeps}
-use Rattle.scope.specs.Calls.{loadSays, runSays, reportSays, StateSays, before, ill-formed, well-formed, SameLengths, Loads, Runs, Steps}
+use Rattle.scope.specs.Calls.{andThen, bufferTests, loadSays, runSays, reportSays, StateSays, before, ill-formed, well-formed, SameLengths}
+use Rattle.scope.specs.Calls.{Loads, Runs, Steps}
 use Rattle.scope.proofs.Tests.{both-fine}
 use Rattle.accept.proofs.Exact.{accepted-formed}
 use Rattle.cells.specs.Rows.{Sized}
@@ -32,14 +33,14 @@ said-well v b r d t c x (before e) f = let z : _≡_ {A = ℕ} 0 1 = cc in absur
 said-well v b r d t c x (ill-formed e h) f = let z : _≡_ {A = ℕ} 0 1 = cc in absurd (omega arith)
 said-well v b r d t c x (well-formed e h) f = (e, h)
 
--- what image and buffers are when a run, or a report, is not refused for them
+-- what image and buffers are when a call is not refused for them, whatever it tests besides
+accepted : (b d t c : List ℕ) (more : List Test)
+    → andThen (imageSays b) (firstFailing (bufferTests b (length d) (length t) (length c) more)) ≡ Fine → (imageSays b ≡ Fine) × Sized b d t c
+accepted b d t c more e = let v = both-fine (imageSays b) _ e in (v .0, sized b d t c more Fine (sym (v .1)) refl)
+
 pub run-accepted : (b d t c : List ℕ) → runSays b (length d) (length t) (length c) ≡ Fine → (imageSays b ≡ Fine) × Sized b d t c
 unfolding runSays
-run-accepted b d t c e = let v = both-fine (imageSays b) _ e in (v .0, sized b d t c _ Fine (sym (v .1)) refl)
-
-report-accepted : (b d t c : List ℕ) (k : ℕ) → reportSays b (length d) (length t) (length c) k ≡ Fine → (imageSays b ≡ Fine) × Sized b d t c
-unfolding reportSays
-report-accepted b d t c k e = let v = both-fine (imageSays b) _ e in (v .0, sized b d t c _ Fine (sym (v .1)) refl)
+run-accepted b d t c = accepted b d t c []
 
 module _ (b d t c : List ℕ) (yb : Bytes b) (yd : Bytes d) (yt : Bytes t) (yc : Bytes c) where
   lent : Sized b d t c → Lent b d t c
@@ -54,7 +55,8 @@ module _ (b d t c : List ℕ) (yb : Bytes b) (yd : Bytes d) (yt : Bytes t) (yc :
     kept-to-run e o = kept (run-accepted b d t c e) o
 
     pub kept-to-report : (k : ℕ) → reportSays b (length d) (length t) (length c) k ≡ Fine → StateOk b r d t c → Kept b r d t c
-    kept-to-report k e o = kept (report-accepted b d t c k e) o
+    unfolding reportSays
+    kept-to-report k e o = kept (accepted b d t c _ e) o
 
     -- ---- a well-formed state
 
@@ -74,13 +76,12 @@ pub loaded-well : (b d t c : List ℕ) (out : Loaded) (d′ t′ c′ : List ℕ
     → loadSays b (length d) (length t) (length c) ≡ Fine → Keeps b (out .registers) d′ t′ c′ (initial b) × StateOk b (out .registers) d′ t′ c′
 unfolding loadSays
 loaded-well b d t c out d′ t′ c′ yb yd yt yc l e =
-    let v = both-fine (imageSays b) _ e in
+    let v = accepted b d t c _ e in
     let w = accepted-formed b (v .0) in
-    let z = sized b d t c _ Fine (sym (v .1)) refl in
+    let r = bottom-room b (length d) (length t) (length c) Fine (sym (both-fine (imageSays b) _ e .1)) refl in
     let h = l .done e in
-    let k : Keeps b (out .registers) d′ t′ c′ (initial b) =
-    record { proper = initial-proper b w yb (bottom-room b (length d) (length t) (length c) Fine (sym (v .1)) refl); holds = h .1 } in
-    (k, formed b w yb (out .registers) d′ t′ c′ (lent b d′ t′ c′ yb yd yt yc (still-sized b d t c d′ t′ c′ z (h .0))) (initial b) k)
+    let k : Keeps b (out .registers) d′ t′ c′ (initial b) = record { proper = initial-proper b w yb r; holds = h .1 } in
+    (k, formed b w yb (out .registers) d′ t′ c′ (lent b d′ t′ c′ yb yd yt yc (still-sized b d t c d′ t′ c′ (v .1) (h .0))) (initial b) k)
 
 -- ---- after a run, and after a step
 

@@ -4,9 +4,7 @@ use mathlib.Core.List.{List, [], _∷_}
 use Prim.Native.Nat.{ℕ, _*_, _<_, _≤_}
 use native.Mathlib.Omega.{arith}
 use borrow.Author.Tests.{eq-eqb, le-leb}
-use lib.ListN.{length, take, getD, length-take}
-use mir.Val.{Fits}
-use mir.Syntax.{w8}
+use lib.ListN.{length, take, length-take}
 use Rattle.moore.specs.Objects.{choose}
 use Rattle.moore.specs.Machine.{P}
 use Rattle.scope.specs.declared.Checked.{Checked}
@@ -21,13 +19,13 @@ use Rattle.scope.specs.Holding.{textOf, initial}
 use Rattle.scope.specs.Calls.{numberOf, placeOf, andThen, loadSays, runSays, noRegisters, StateSays, before, ill-formed, well-formed, Loads, Runs}
 use Rattle.scope.specs.Printing.{budget, inputSays}
 use Rattle.scope.proofs.Tests.{append-fine, both-fine}
-use Rattle.scope.specs.Cells.{Bytes}
 use Rattle.image.specs.declared.Counts.{Counts}
 use Rattle.image.specs.Laid.{countsOf}
 use Rattle.accept.specs.Facts.{Ranged}
 use Rattle.accept.proofs.Chain.{ranged}
 use Rattle.accept.proofs.Exact.{accepted-formed, accepted-long}
 use Rattle.cells.specs.Rows.{Sized}
+use Rattle.cells.proofs.Buffers.{Octets, bytes}
 use Rattle.states.proofs.Lengths.{still-sized}
 use Rattle.link.proofs.Theorems.{cells-seen}
 use Rattle.packed.specs.Packed.{Packed}
@@ -98,13 +96,6 @@ fitting b d t c n a x y z =
     }
 
 -- ---- load and run
-
--- a slice's elements fit a byte
-abbrev Octets : List ℕ → Type 0
-Octets x = (m : ℕ) → Fits w8 (getD x m 0)
-
-bytes : (x : List ℕ) → Octets x → Bytes x
-bytes x h m = h m .fits
 
 run-fine : (b d t c : List ℕ) → imageSays b ≡ Fine → Sized b d t c → runSays b (length d) (length t) (length c) ≡ Fine
 unfolding runSays andThen firstFailing choose

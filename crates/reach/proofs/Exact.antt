@@ -10,20 +10,19 @@ use Rattle.moore.specs.Machine.{Ins, ret, State, program, insAt, area}
 use Rattle.moore.specs.Proper.{count}
 use Rattle.scope.specs.declared.Registers.{Registers}
 use Rattle.scope.specs.Cells.{cellFrom, cellAt, cellOf, free, Bytes}
-use Rattle.scope.specs.Image.{word, areas, instructions, constants, firstInstruction, firstCell, areaLength}
-use Rattle.scope.specs.Image.{instructionAt, instructionOf, constantAt}
+use Rattle.scope.specs.Image.{word, areas, instructions, constants, firstInstruction, firstCell, areaLength, instructionAt, instructionOf, constantAt}
 use Rattle.scope.specs.Checks.{tab, boundsOf, WellFormed}
-use Rattle.scope.specs.Holding.{constantOf, insOf, textOf, controlWords, Keeps}
+use Rattle.scope.specs.Holding.{insOf, textOf, controlWords, Keeps}
 use Rattle.scope.specs.Reach.{Global, Named, by-operand, by-constant, by-temporary, by-control, Leads, lies, Chain, starts, goes-on, InReach, Report}
-use Rattle.cells.specs.Rows.{cells}
-use Rattle.scope.proofs.Tabs.{length-tab, is-tab, map-tab, tab-same}
+use Rattle.cells.specs.Rows.{cells, Sized}
+use Rattle.scope.proofs.Tabs.{length-tab, is-tab, tab-same}
 use Rattle.stacks.proofs.Laws.{reverse-stk}
 use Rattle.packed.specs.Packed.{Packed}
-use Rattle.cells.specs.Rows.{Sized}
 use Rattle.link.proofs.Lists.{map-reverse, map-get}
 use Rattle.link.proofs.Objects.{in-area}
 use Rattle.scope.proofs.Formed.{code-in, live}
-use Rattle.link.proofs.Texts.{ins-is, constant-is, bounded, in-text}
+use Rattle.scope.proofs.Holding.{ins-is, tab-back, constant-is}
+use Rattle.link.proofs.Texts.{bounded, in-text}
 use Rattle.link.proofs.Held.{Sees}
 use Rattle.link.proofs.Theorems as T
 use Rattle.link.proofs.Theorems.{cells-seen}
@@ -43,9 +42,7 @@ from-zero x n =
 module _ (b : List ℕ) (w : WellFormed b) (y : Bytes b) where
   constants-are : tab (λ k. cellFrom b (word b 9 + 8 * k)) (constants b) ≡ map cellOf (textOf b .consts)
   unfolding textOf
-  constants-are =
-      sym (map-tab cellOf (constantOf b) (constants b)
-      ∙ tab-same (λ k. cellOf (constantOf b k)) (constantAt b) (constants b) (constant-is b w y))
+  constants-are = sym (tab-back (constantAt b) (constants b) (constant-is b w y))
 
   uses-global : (s : State) (a : ℕ) → Uses b (instructions b) a → Named (textOf b) s a
   uses-global s a p =

@@ -3,7 +3,7 @@ use mathlib.Core.Path.{_≡_, refl, sym, ap, subst, _∙_}
 use mathlib.Core.List.{List, [], _∷_, map, reverse, reverse-reverse, List·Memᴰ, List·Memᴰ·head, List·Memᴰ·tail, List·Memᴰ·not-nil}
 use mathlib.Core.List.{List·Memᴰ·append-cases, Memᴰ·append-left, Memᴰ·append-right, Memᴰ·cast, Memᴰ·map, Memᴰ·of-map}
 use mathlib.Core.Logic.{_⊎_, inl, inr}
-use Prim.Native.Nat.{ℕ, zero, suc, _<_, _≤_}
+use Prim.Native.Nat.{ℕ, suc, _<_, _≤_}
 use native.Mathlib.Omega.{arith}
 use lib.ListN.{length, getD}
 use Rattle.moore.specs.Objects.{Obj, nat, int, bitv, bool, addr, pc, subr}
@@ -15,7 +15,8 @@ use Rattle.scope.specs.Cells.{cellOf}
 use Rattle.scope.specs.Checks.{tab}
 use Rattle.scope.specs.Holding.{insOf, frameWords, controlWords}
 use Rattle.scope.specs.Reach.{Global, pushes, pops, sets}
-use Rattle.link.proofs.Texts.{code-of}
+use Rattle.scope.proofs.Tabs.{tab-has, tab-holds}
+use Rattle.scope.proofs.Holding.{code-of}
 use Rattle.reach.specs.Marks.{Addr, Operand, Among}
 use Rattle.reach.proofs.Laws.{global-5, global-9, global-11}
 use Rattle.reach.proofs.Parts.{global-code}
@@ -23,17 +24,6 @@ use Rattle.reach.proofs.Parts.{global-code}
 -- ---- members
 
 module _ {X : Type 0} where
-  tab-member : (f : ℕ → X) (n k : ℕ) → k < n → List·Memᴰ (f k) (tab f n)
-  tab-member f zero k l = absurd (omega arith)
-  tab-member f (suc n) zero l = List·Memᴰ·head refl
-  tab-member f (suc n) (suc k) l = List·Memᴰ·tail (tab-member (λ i. f (suc i)) n k (omega arith))
-
-  member-tab : (f : ℕ → X) (n : ℕ) (x : X) → List·Memᴰ x (tab f n) → (k : ℕ) × (k < n) × (x ≡ f k)
-  member-tab f zero x m = absurd (List·Memᴰ·not-nil m)
-  member-tab f (suc n) x (List·Memᴰ·head e) = (0, omega arith, e)
-  member-tab f (suc n) x (List·Memᴰ·tail m) =
-      let w = member-tab (λ i. f (suc i)) n x m in (suc (w .0), omega (arith, w .1), w .2)
-
   pub getD-member : (l : List X) (d : X) (x : X) → List·Memᴰ x l → (k : ℕ) × (k < length l) × (x ≡ getD l k d)
   getD-member [] d x m = absurd (List·Memᴰ·not-nil m)
   getD-member (y ∷ l) d x (List·Memᴰ·head e) = (0, omega arith, e)
@@ -58,13 +48,13 @@ module _ (f : ℕ → Cell) (n : ℕ) (l : List Cell) (e : tab f n ≡ l) (a : �
   among-into p =
       record {
         cell = f (p .place);
-        member = subst (λ (x : List Cell). List·Memᴰ (f (p .place)) x) e (tab-member f n (p .place) (p .high));
+        member = subst (λ (x : List Cell). List·Memᴰ (f (p .place)) x) e (tab-has f n (p .place) (p .high));
         leads = p .here;
       }
 
   pub into-among : Into l a → Among (λ k. Addr (f k)) n a
   into-among i =
-      let w = member-tab f n (i .cell) (subst (λ (x : List Cell). List·Memᴰ (i .cell) x) (sym e) (i .member)) in
+      let w = tab-holds f n (i .cell) (subst (λ (x : List Cell). List·Memᴰ (i .cell) x) (sym e) (i .member)) in
       record { place = w .0; high = w .1; here = subst (λ (c : Cell). Addr c a) (w .2) (i .leads) }
 
 object-addr : (x : Obj) (a : ℕ) → Addr (cellOf x) a → (o : ℕ) × (x ≡ addr a o)

@@ -22,8 +22,7 @@ use Rattle.image.specs.Laid.{Accepted}
 use Rattle.image.specs.View.{AreRecords}
 use Rattle.image.proofs.Records.{cell-read}
 use Rattle.scope.proofs.Formed.{first-instruction, operands}
-use Rattle.reach.specs.Marks.{global, Points, Uses, InText, InStacks, Marking, Ready, Added, Union}
-use Rattle.reach.specs.Marks.{Stacks}
+use Rattle.reach.specs.Marks.{global, Points, Uses, InText, InStacks, Marking, Ready, Added, Union, Stacks}
 use Rattle.reach.proofs.Laws.{both, added-as, ready-on}
 
 -- ---- cells

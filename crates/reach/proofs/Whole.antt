@@ -3,9 +3,7 @@ use mathlib.Core.Path.{_≡_, _∙_}
 use mathlib.Core.List.{List}
 use Prim.Native.Nat.{ℕ, _+_, _*_}
 use native.Mathlib.Omega.{arith}
-use lib.ListN.{length, getD}
-use mir.Syntax.{w8}
-use mir.Val.{Fits}
+use lib.ListN.{length}
 use Rattle.moore.specs.Machine.{State}
 use Rattle.scope.specs.declared.Registers.{Registers}
 use Rattle.scope.specs.Image.{areas}
@@ -16,6 +14,7 @@ use Rattle.image.specs.declared.Counts.{Counts}
 use Rattle.image.specs.declared.Offsets.{Offsets}
 use Rattle.image.specs.Laid.{Accepted}
 use Rattle.cells.specs.Rows.{Sized}
+use Rattle.cells.proofs.Buffers.{Octets, bytes}
 use Rattle.reach.specs.Marks.{Points, InText, InStacks, Names, Edge, Comes, Marked, Marking, Ready, Cleared, Added, Exactly, Data, Stacks, Used}
 use Rattle.reach.proofs.Laws.{both, from-nothing}
 use Rattle.reach.proofs.Parts.{objects-ready}
@@ -67,9 +66,9 @@ module _ (b : List ℕ) (at : Offsets) (n : Counts) (a : Accepted b at n) (r : R
     pub state-marking : Marking b m₁
     state-marking = record { long = g .long ∙ l ∙ a .counted .areas-are; bits = g .bits }
 
-    pub reported : (m₂ : List ℕ) → Exactly (Comes (Marked m₁) (Edge b d)) m₁ m₂ → ((i : ℕ) → Fits w8 (getD b i 0))
+    pub reported : (m₂ : List ℕ) → Exactly (Comes (Marked m₁) (Edge b d)) m₁ m₂ → Octets b
         → (s : State) → Keeps b r d t c s → Report (textOf b) s m₂
     reported m₂ h y s k =
-        exact b (a .formed) (λ i. y i .fits) r d t c z s k m m₂ (l ∙ a .counted .areas-are) (from-exactly (Edge b d) g h)
+        exact b (a .formed) (bytes b y) r d t c z s k m m₂ (l ∙ a .counted .areas-are) (from-exactly (Edge b d) g h)
 
 pub ruleset reporting = (state-used, state-data, state-marking, reported, arith)

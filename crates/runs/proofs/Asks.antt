@@ -6,8 +6,7 @@ use native.Mathlib.Omega.{arith}
 use lib.ListN.{length}
 use Rattle.scope.specs.declared.Instruction.{Instruction}
 use Rattle.scope.specs.declared.Registers.{Registers}
-use Rattle.scope.specs.Image.{programs, areas, constants, dataCells, locals}
-use Rattle.scope.specs.Image.{firstCell, instructionOf, kindOf, operandBound}
+use Rattle.scope.specs.Image.{programs, areas, constants, dataCells, locals, firstCell, instructionOf, kindOf, operandBound}
 use Rattle.cells.proofs.Laws.{length-cells}
 use Rattle.image.specs.declared.Counts.{Counts}
 use Rattle.image.specs.declared.Offsets.{Offsets}

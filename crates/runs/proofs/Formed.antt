@@ -10,8 +10,7 @@ use Rattle.moore.specs.Objects.{choose}
 use Rattle.scope.specs.declared.Cell.{Cell}
 use Rattle.scope.specs.declared.Instruction.{Instruction}
 use Rattle.scope.specs.Cells.{rowOf, objectp}
-use Rattle.scope.specs.Image.{programs, areas, constants, instructionCount}
-use Rattle.scope.specs.Image.{areaLength, instructionOf, kindOf, operandBound}
+use Rattle.scope.specs.Image.{programs, areas, constants, instructionCount, areaLength, instructionOf, kindOf, operandBound}
 use Rattle.scope.specs.Checks.{boundsOf, WellFormed}
 use Rattle.scope.proofs.Bools.{and-both}
 use Rattle.scope.proofs.Formed.{area-in, operands, cases-below}

@@ -7,14 +7,11 @@ use native.Mathlib.Omega.{arith}
 use borrow.Author.Tests.{lt-ltb, le-ltb, le-leb, lt-leb, eq-eqb, ne-eqb}
 use lib.Dec.{ltb, leb, eqb}
 use Rattle.moore.specs.Objects.{choose}
+pub use Rattle.moore.proofs.Objects.{and-both}
 
 -- a Bool is not both
 pub clash : {X : Type 0} → false ≡ true → X
 clash e = let z : _≡_ {A = ℕ} 0 1 = cc in absurd (omega arith)
-
-pub and-both : (a b : Bool) → a && b ≡ true → (a ≡ true) × (b ≡ true)
-and-both true b e = (refl, e)
-and-both false b e = clash e
 
 pub both-and : (a b : Bool) → a ≡ true → b ≡ true → a && b ≡ true
 both-and a b p q = rw p q
@@ -65,11 +62,11 @@ and-flag f t r rest p q e = let h : t ≡ true = cc in rw h e
 pub and-flag-no : (f t rest : Bool) → f ≡ t → f ≡ false → false ≡ t && rest
 and-flag-no f t rest p q = let h : t ≡ false = cc in rw h
 
-pub choose-eq : (x y : ℕ) (r a b : Bool) → x ≡ y → r ≡ a → r ≡ choose (eqb x y) a b
+pub choose-eq : {X : Type 0} (x y : ℕ) (r a b : X) → x ≡ y → r ≡ a → r ≡ choose (eqb x y) a b
 unfolding choose
 choose-eq x y r a b h e = rw (eq-eqb x y h) e
 
-pub choose-ne : (x y : ℕ) (r a b : Bool) → (x ≡ y → ⊥) → r ≡ b → r ≡ choose (eqb x y) a b
+pub choose-ne : {X : Type 0} (x y : ℕ) (r a b : X) → (x ≡ y → ⊥) → r ≡ b → r ≡ choose (eqb x y) a b
 unfolding choose
 choose-ne x y r a b h e = rw (ne-eqb x y h) e
 

@@ -1,5 +1,5 @@
 -- A cell tells its object: a cell that passes the table of objects is, by its row, the cell of its object. Assumes nothing.
-use mathlib.Core.Path.{_≡_, refl, sym, ap}
+use mathlib.Core.Path.{_≡_, refl, sym, ap, subst}
 use mathlib.Core.List.{List, [], _∷_}
 use mathlib.Core.Bool.{Bool, true, false, _&&_}
 use Prim.Native.Nat.{ℕ, zero, suc, _+_, _-_, _^_, _<_, _≤_}
@@ -165,46 +165,29 @@ module _ (x : Bounds) where
   passes c (is-pc {p} {o} h l) = rw (lt-ltb p (x .programs) h, lt-ltb o (x .instructionCount p) l)
   passes c (is-subr {p} h) = rw (lt-ltb p (x .programs) h)
 
-  -- a pc is of a program and inside it
+  -- what passes has no zero byte set, and its row is its tag's
+  zero-is : (c : Cell) → objectp x c ≡ true → c .zero ≡ 0
+  unfolding objectp
+  zero-is c h = eqb-true (c .zero) 0 (and-both (eqb (c .zero) 0) (rowOf x c) h .0)
+
+  row-at : (c : Cell) (t : ℕ) → objectp x c ≡ true → c .tag ≡ t → rowOf x (cell t (c .name) (c .value)) ≡ true
+  unfolding objectp rowOf
+  row-at c t h e = subst (λ (k : ℕ). rowOf x (cell k (c .name) (c .value)) ≡ true) e (and-both (eqb (c .zero) 0) (rowOf x c) h .1)
+
+  -- a PC is of a program and inside it
   pub pc-in : (c : Cell) → objectp x c ≡ true → c .tag ≡ 6 → (c .name < x .programs) × (c .value < x .instructionCount (c .name))
-  pc-in c h e = by c (row c h) e
-    where
-      by : (c : Cell) → Row x c → c .tag ≡ 6 → (c .name < x .programs) × (c .value < x .instructionCount (c .name))
-      by c is-nat e = absurd (omega arith)
-      by c is-int e = absurd (omega arith)
-      by c is-bitv e = absurd (omega arith)
-      by c is-false e = absurd (omega arith)
-      by c is-true e = absurd (omega arith)
-      by c (is-addr h l) e = absurd (omega arith)
-      by c (is-pc h l) e = (h, l)
-      by c (is-subr h) e = absurd (omega arith)
+  unfolding rowOf choose
+  pc-in c h e =
+      let p = and-both (ltb (c .name) (x .programs)) (ltb (c .value) (x .instructionCount (c .name))) (row-at c 6 h e) in
+      (ltb-true (c .name) (x .programs) (p .0), ltb-true (c .value) (x .instructionCount (c .name)) (p .1))
 
   -- a NAT and a PC are their values
   pub nat-is : (c : Cell) → objectp x c ≡ true → c .tag ≡ 1 → c ≡ cell 1 0 (c .value)
-  nat-is c h e = by c (row c h) e
-    where
-      by : (c : Cell) → Row x c → c .tag ≡ 1 → c ≡ cell 1 0 (c .value)
-      by c is-nat e = refl
-      by c is-int e = absurd (omega arith)
-      by c is-bitv e = absurd (omega arith)
-      by c is-false e = absurd (omega arith)
-      by c is-true e = absurd (omega arith)
-      by c (is-addr h l) e = absurd (omega arith)
-      by c (is-pc h l) e = absurd (omega arith)
-      by c (is-subr h) e = absurd (omega arith)
+  unfolding rowOf choose
+  nat-is c h e = cell-ext c (cell 1 0 (c .value)) e (zero-is c h) (eqb-true (c .name) 0 (row-at c 1 h e)) refl
 
   pub pc-is : (c : Cell) → objectp x c ≡ true → c .tag ≡ 6 → c ≡ cell 6 (c .name) (c .value)
-  pc-is c h e = by c (row c h) e
-    where
-      by : (c : Cell) → Row x c → c .tag ≡ 6 → c ≡ cell 6 (c .name) (c .value)
-      by c is-nat e = absurd (omega arith)
-      by c is-int e = absurd (omega arith)
-      by c is-bitv e = absurd (omega arith)
-      by c is-false e = absurd (omega arith)
-      by c is-true e = absurd (omega arith)
-      by c (is-addr h l) e = absurd (omega arith)
-      by c (is-pc h l) e = refl
-      by c (is-subr h) e = absurd (omega arith)
+  pc-is c h e = cell-ext c (cell 6 (c .name) (c .value)) e (zero-is c h) refl refl
 
   pub cell-object : (c : Cell) → c .value < 2 ^ 32 → objectp x c ≡ true → cellOf (objectOf 32 c) ≡ c
   unfolding cellOf objectOf choose

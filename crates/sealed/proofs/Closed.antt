@@ -18,7 +18,7 @@ use Rattle.moore.specs.Machine.{p-ins-okp, p-ins-step, codeOf, p-settle, p-step
 use Rattle.moore.specs.Proper.{All}
 use Rattle.moore.proofs.Lists.{all-drop, all-take, all-append, all-reverse, all-set, all-getD}
 use Rattle.moore.proofs.Areas.{deposit-other, deposit-same, deposit-none, deposit-many}
-use Rattle.moore.proofs.Objects.{both, clause, clause-one, clause-two, clause-same, typed, an-addr, objectp-by}
+use Rattle.moore.proofs.Objects.{and-both, clause, clause-one, clause-two, clause-same, typed, an-addr, objectp-by}
 use Rattle.scope.specs.Reach.{pushes, pops, sets}
 use Rattle.scope.specs.Sealed.{Alike, Agree, Kept}
 use Rattle.sealed.specs.Closed.{Inside, Uses, program-of, constant-of, global-of, InText, InFrame, InState}
@@ -213,7 +213,7 @@ module _ (C A : ℕ → Type 0) where
     two-alike : (u v r r′ : ℕ) → (p-objectp-type v (top1 s) m s ≡ true → r ≡ r′) → two u v m s r ≡ two u v m s′ r′
     two-alike u v r r′ f =
         rw (typed-alike u (top s) (at-temp 0), typed-alike v (top1 s) (at-temp 1))
-        (ap (λ (n : ℕ). need (has 2 s) 1 n) (clause-same _ 2 r r′ (λ q. f (both (p-objectp-type u (top s) m s) _ q .1))))
+        (ap (λ (n : ℕ). need (has 2 s) 1 n) (clause-same _ 2 r r′ (λ q. f (and-both (p-objectp-type u (top s) m s) _ q .1))))
 
     -- the last clause of ADD-ADDR
     sum-alike : (n : ℕ) → p-objectp-type ADDR (top1 s) m s ≡ true

@@ -1,34 +1,31 @@
 -- In the text of a well-formed image every object that a program pushes or takes as an initial temp is a constant of the image.
-use mathlib.Core.Path.{_≡_, refl, sym, ap, _∙_}
-use mathlib.Core.List.{List, [], List·Memᴰ, List·Memᴰ·not-nil, Memᴰ·cast, map}
-use Prim.Native.Nat.{ℕ, suc, _+_, _-_, _<_, _≤_}
+use mathlib.Core.Path.{_≡_, sym, ap, _∙_}
+use mathlib.Core.List.{List, List·Memᴰ, List·Memᴰ·not-nil, Memᴰ·cast}
+use Prim.Native.Nat.{ℕ, _+_, _-_, _<_, _≤_}
 use native.Mathlib.Omega.{arith}
 use native.Mathlib.Decide.{decLt}
-use lib.ListN.{getD, List·getD-map}
+use lib.ListN.{getD, List·getD-eq-default}
 use Rattle.moore.specs.Objects.{Obj}
 use Rattle.moore.specs.Machine.{Ins, ret, push-constant, codeOf, Program, program, insAt}
 use Rattle.scope.specs.declared.Instruction.{Instruction}
 use Rattle.scope.specs.Image.{programs, constants, instructionCount, temps, firstTemp, instructionOf}
 use Rattle.scope.specs.Checks.{tab, WellFormed}
-use Rattle.scope.specs.Holding.{constantOf, insList, insOf, programOf, textOf}
-use Rattle.scope.proofs.Tabs.{getD-tab, tab-out, tab-has, tab-holds}
+use Rattle.scope.specs.Holding.{constantOf, insList, insOf, textOf}
+use Rattle.scope.proofs.Tabs.{tab-out, tab-has, tab-holds}
+use Rattle.scope.proofs.Holding.{no-program, program-is, ins-is, code-at}
 use Rattle.scope.proofs.Formed.{constant-in, temps-in}
 use Rattle.scope.specs.Sealed.{Drawn}
 
 -- ---- only code 3 pushes a constant
 
-codes : (b : List ℕ) (i : Instruction) → map codeOf (insList b i) ≡ tab suc 36
-codes b i = refl
-
 at-code : (b : List ℕ) (i : Instruction) (k : ℕ) → codeOf (getD (insList b i) k ret) ≡ 3 → k ≡ 2
 at-code b i k h = by (decLt k 36)
   where
-    e : getD (tab suc 36) k 2 ≡ 3
-    e = ap (λ (l : List ℕ). getD l k 2) (sym (codes b i)) ∙ List·getD-map codeOf (insList b i) k ret ∙ h
-
     by : Dec (k < 36) → k ≡ 2
-    by (yes l) = omega (arith, sym (getD-tab suc 36 k 2 l) ∙ e)
-    by (no l) = absurd (omega (arith, sym (tab-out suc 36 k 2 (omega arith)) ∙ e))
+    by (yes l) = omega (arith, code-at b i k l)
+    by (no l) =
+        let u : 36 ≤ k = omega arith in
+        absurd (omega (arith, ap codeOf (List·getD-eq-default (insList b i) ret {n = k} u)))
 
 only-three : (b : List ℕ) (i : Instruction) (c : Obj) → insOf b i ≡ push-constant c → (i .code ≡ 3) × (c ≡ constantOf b (i .a))
 unfolding insOf
@@ -40,27 +37,14 @@ only-three b i c e =
 -- ---- the programs of the text
 
 module _ (b : List ℕ) (p : ℕ) where
-  program-in : p < programs b → program (textOf b) p ≡ programOf b p
-  unfolding program textOf
-  program-in l = getD-tab (programOf b) (programs b) p _ l
-
-  program-out : programs b ≤ p → program (textOf b) p ≡ record { formals = 0; temps = []; code = [] }
-  unfolding program textOf
-  program-out l = tab-out (programOf b) (programs b) p _ l
-
-  ins-in : (o : ℕ) → p < programs b → o < instructionCount b p → insAt (textOf b) p o ≡ insOf b (instructionOf b p o)
-  unfolding insAt
-  ins-in o l k =
-      ap (λ (q : Program). getD (q .code) o ret) (program-in l) ∙ getD-tab (λ o. insOf b (instructionOf b p o)) (instructionCount b p) o ret k
-
   ins-out : (o : ℕ) → p < programs b → instructionCount b p ≤ o → insAt (textOf b) p o ≡ ret
   unfolding insAt
   ins-out o l k =
-      ap (λ (q : Program). getD (q .code) o ret) (program-in l) ∙ tab-out (λ o. insOf b (instructionOf b p o)) (instructionCount b p) o ret k
+      ap (λ (q : Program). getD (q .code) o ret) (program-is b p l) ∙ tab-out (λ o. insOf b (instructionOf b p o)) (instructionCount b p) o ret k
 
   ins-none : (o : ℕ) → programs b ≤ p → insAt (textOf b) p o ≡ ret
   unfolding insAt
-  ins-none o l = ap (λ (q : Program). getD (q .code) o ret) (program-out l)
+  ins-none o l = ap (λ (q : Program). getD (q .code) o ret) (no-program b p l)
 
 not-ret : (j : Ins) (c : Obj) → j ≡ ret → j ≡ push-constant c → ⊥
 not-ret j c e h = let z : _≡_ {A = ℕ} 2 3 = ap codeOf (sym e ∙ h) in omega arith
@@ -71,7 +55,7 @@ module _ (b : List ℕ) (w : WellFormed b) where
     where
       by : Dec (p < programs b) → Dec (o < instructionCount b p) → List·Memᴰ c (tab (constantOf b) (constants b))
       by (yes l) (yes k) =
-          let u = only-three b (instructionOf b p o) c (sym (ins-in b p o l k) ∙ e) in
+          let u = only-three b (instructionOf b p o) c (sym (ins-is b p l o k) ∙ e) in
           Memᴰ·cast (u .1) (tab-has (constantOf b) (constants b) _ (constant-in b w p o l k (u .0)))
       by (yes l) (no k) = absurd (not-ret _ c (ins-out b p o l (omega arith)) e)
       by (no l) k = absurd (not-ret _ c (ins-none b p o (omega arith)) e)
@@ -81,9 +65,9 @@ module _ (b : List ℕ) (w : WellFormed b) where
     where
       by : Dec (p < programs b) → List·Memᴰ c (tab (constantOf b) (constants b))
       by (yes l) =
-          let u = tab-holds (λ k. constantOf b (firstTemp b p + k)) (temps b p) c (rw (program-in b p l) at h) in
+          let u = tab-holds (λ k. constantOf b (firstTemp b p + k)) (temps b p) c (rw (program-is b p l) at h) in
           Memᴰ·cast (u .2) (tab-has (constantOf b) (constants b) _ (omega (arith, temps-in b w p l, u .1)))
-      by (no l) = absurd (List·Memᴰ·not-nil (rw (program-out b p (omega arith)) at h))
+      by (no l) = absurd (List·Memᴰ·not-nil (rw (no-program b p (omega arith)) at h))
 
   pub drawn : Drawn (textOf b)
   unfolding textOf

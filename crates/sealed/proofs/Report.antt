@@ -58,6 +58,11 @@ module _ (C A : ℕ → Type 0) where
 
 -- ---- a report of s
 
+-- equal but for cells outside A, and equal in the areas of B: equal but for cells outside B
+agree-too : {A B : ℕ → Type 0} {s t : State} → ((a : ℕ) → B a → area (s .areas) a ≡ area (t .areas) a) → Agree A s t → Agree B s t
+agree-too f g =
+    record { prog = g .prog; off = g .off; ctrl = g .ctrl; temp = g .temp; areas = record { many = g .areas .many; cells = f }; psw = g .psw }
+
 module _ (m : Text) (s : State) (r : List ℕ) (k : Report m s r) where
   at-one : (a : ℕ) → getD r a 0 ≡ 1 → NotOut (InReach m s) a
   at-one a e h = by (decLt a (length r))
@@ -71,50 +76,25 @@ module _ (m : Text) (s : State) (r : List ℕ) (k : Report m s r) where
 
   -- equal but for areas reported 0: equal in all that is not out of reach
   not-out-agree : (t : State) → EqualBut r s t → Agree (NotOut (InReach m s)) s t
-  not-out-agree t g =
-      record {
-        prog = g .prog;
-        off = g .off;
-        ctrl = g .ctrl;
-        temp = g .temp;
-        areas = record { many = g .many; cells = λ a h. by a h (decLt a (length r)) (ℕ-discrete (getD r a 0) 1) };
-        psw = g .psw;
-      }
+  not-out-agree t g = agree-too (λ a h. by a h (decLt a (length r)) (ℕ-discrete (getD r a 0) 1)) g
     where
       by : (a : ℕ) → NotOut (InReach m s) a → Dec (a < length r) → Dec (getD r a 0 ≡ 1) → area (s .areas) a ≡ area (t .areas) a
-      by a h (yes l) (yes e) = g .cells a e
+      by a h (yes l) (yes e) = g .areas .cells a e
       by a h (yes l) (no e) = absurd (h (λ q. e (k .one a l q)))
       by a h (no l) e =
           List·getD-eq-default (s .areas) [] {n = a} (omega (arith, k .long))
-          ∙ sym (List·getD-eq-default (t .areas) [] {n = a} (omega (arith, k .long, g .many)))
+          ∙ sym (List·getD-eq-default (t .areas) [] {n = a} (omega (arith, k .long, g .areas .many)))
 
   -- and so in all that is in reach
   pub report-agree : (t : State) → EqualBut r s t → Agree (InReach m s) s t
-  report-agree t g =
-      let e = not-out-agree t g in
-      record {
-        prog = g .prog;
-        off = g .off;
-        ctrl = g .ctrl;
-        temp = g .temp;
-        areas = record { many = g .many; cells = λ a h. e .areas .cells a (λ n. n h) };
-        psw = g .psw;
-      }
+  report-agree t g = let e = not-out-agree t g in agree-too (λ a h. e .areas .cells a (λ n. n h)) e
 
 -- Demand 3 by the report: two p-states that are equal but for cells of areas reported 0 run alike for n steps, and those areas stay.
 pub demand-3-report : (m : Text) → Drawn m → (r : List ℕ) (s t : State) (n : ℕ) → Report m s r → EqualBut r s t
     → SealedBy m r s t (P m s n) (P m t n)
 demand-3-report m w r s t n k g =
     record {
-      equal = record {
-        prog = v .agree .prog;
-        off = v .agree .off;
-        ctrl = v .agree .ctrl;
-        temp = v .agree .temp;
-        many = v .agree .areas .many;
-        cells = λ a e. v .agree .areas .cells a (at-one m s r k a e);
-        psw = v .agree .psw;
-      };
+      equal = agree-too (λ a e. v .agree .areas .cells a (at-one m s r k a e)) (v .agree);
       reports = λ q h. record {
         long = h .long ∙ v .agree .areas .many;
         one = λ a l z. h .one a l (d .reach a .1 z);

@@ -21,14 +21,8 @@ pub record Sealed (R : State → ℕ → Type 0) (s t x y : State) : Type 0 wher
 -- ---- in the words of a report r, one byte for each area, 1 in reach and 0 not
 
 -- equal but for cells in areas that r writes 0 for
-pub record EqualBut (r : List ℕ) (s t : State) : Type 0 where
-  pub prog : s .prog ≡ t .prog
-  pub off : s .off ≡ t .off
-  pub ctrl : s .ctrl ≡ t .ctrl
-  pub temp : s .temp ≡ t .temp
-  pub many : length (s .areas) ≡ length (t .areas)
-  pub cells : (a : ℕ) → getD r a 0 ≡ 1 → area (s .areas) a ≡ area (t .areas) a
-  pub psw : s .psw ≡ t .psw
+abbrev pub EqualBut : List ℕ → State → State → Type 0
+EqualBut r s t = Agree (λ a. getD r a 0 ≡ 1) s t
 
 -- from s to x the areas that r writes 0 for stay as they are
 abbrev pub Untouched : List ℕ → State → State → Type 0

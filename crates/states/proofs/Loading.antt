@@ -1,24 +1,19 @@
 -- Load: the image's cells are the cells of the objects that it means, so buffers filled from it hold the initial p-state. Assumes nothing.
 use mathlib.Core.Path.{_≡_, refl, sym, ap, _∙_}
-use mathlib.Core.List.{List, [], _∷_, _++_, map, append-nil, append-assoc}
-use Prim.Native.Nat.{ℕ, zero, suc, _+_, _-_, _*_, _<_, _≤_}
+use mathlib.Core.List.{List, [], _∷_, _++_}
+use Prim.Native.Nat.{ℕ, _+_, _-_, _*_, _≤_}
 use native.Mathlib.Omega.{arith}
-use borrow.Author.Tests.{eqb-true}
-use lib.ListN.{length, getD, drop}
-use mir.Syntax.{w8}
-use mir.Val.{Fits}
-use Rattle.moore.specs.Objects.{Obj}
+use lib.ListN.{length, drop}
 use Rattle.scope.specs.declared.Cell.{Cell}
-use Rattle.scope.specs.Cells.{cellFrom, cell, cellOf, Bytes}
-use Rattle.scope.specs.Image.{word, areas, constants, dataCells, controlLimit, programField, temps, firstTemp, firstCell, areaLength}
-use Rattle.scope.specs.Image.{constantAt, dataCellAt}
-use Rattle.scope.specs.Checks.{tab, sum, boundsOf, WellFormed}
-use Rattle.scope.specs.Holding.{object, constantOf, initialTemps, areaOf, initial, inBytes, buffer, controlWords, dataWords, Holds}
+use Rattle.scope.specs.Cells.{cell, Bytes}
+use Rattle.scope.specs.Image.{word, areas, constants, dataCells, controlLimit, programField, temps, firstTemp, dataCellAt}
+use Rattle.scope.specs.Checks.{WellFormed}
+use Rattle.scope.specs.Holding.{constantOf, initialTemps, initial, inBytes, buffer, controlWords, dataWords, Holds}
 use Rattle.scope.specs.Calls.{SameLengths}
 use Rattle.cells.specs.Rows.{cells, cellsFrom}
-use Rattle.scope.proofs.Tabs.{length-tab, tab-snoc, map-tab, tab-same, tab-append}
-use Rattle.cells.proofs.Laws.{cells-none, fit-from}
-use Rattle.cells.proofs.Buffers.{inBytes-cells}
+use Rattle.scope.proofs.Tabs.{length-tab}
+use Rattle.cells.proofs.Laws.{cells-none}
+use Rattle.cells.proofs.Buffers.{Octets, bytes, inBytes-cells}
 use Rattle.stacks.specs.Stack.{room, stk, Became, Words}
 use Rattle.stacks.proofs.Laws.{cut-words, push-words, words-after, held-buffer}
 use Rattle.image.specs.declared.Offsets.{Offsets}
@@ -28,66 +23,24 @@ use Rattle.image.specs.declared.Section.the-variants.{Constants, Cells}
 use Rattle.image.specs.View.{AreRecords}
 use Rattle.image.proofs.Records.{cells-read}
 use Rattle.states.specs.Loaded.{Cleared, AreasLoaded, BottomLoaded}
-use Rattle.scope.proofs.Formed.{some-program, area-first, area-in, temps-in}
-use Rattle.scope.proofs.Objects.{cell-object}
+use Rattle.scope.proofs.Formed.{some-program, temps-in}
+use Rattle.scope.proofs.Holding.{areas-words, data-is, temps-words}
 
 -- ---- the data
 
-data-snoc : (l : List (List Obj)) (x : List Obj) → dataWords (l ++ (x ∷ [])) ≡ dataWords l ++ map cellOf x
-data-snoc [] x = append-nil (map cellOf x)
-data-snoc (y ∷ l) x = ap (λ (z : List Cell). map cellOf y ++ z) (data-snoc l x) ∙ sym (append-assoc (map cellOf y) (dataWords l) (map cellOf x))
-
 module _ (b : List ℕ) (w : WellFormed b) (y : Bytes b) where
-  area-words : (a : ℕ) → a < areas b → map cellOf (areaOf b a) ≡ tab (λ k. dataCellAt b (sum (areaLength b) a + k)) (areaLength b a)
-  area-words a l =
-      map-tab cellOf (λ k. object (dataCellAt b (firstCell b a + k))) (areaLength b a)
-      ∙ tab-same (λ k. cellOf (object (dataCellAt b (firstCell b a + k)))) (λ k. dataCellAt b (sum (areaLength b) a + k)) (areaLength b a)
-      (λ k h.
-      cell-object (boundsOf b) (dataCellAt b (firstCell b a + k)) (fit-from b (word b 10 + 8 * (firstCell b a + k)) y .value)
-      (w .every-cell (firstCell b a + k) (area-in b w a k l h))
-      ∙ ap (λ (s : ℕ). dataCellAt b (s + k)) (area-first b w a l))
-
-  data-words : (a : ℕ) → a ≤ areas b → dataWords (tab (areaOf b) a) ≡ tab (dataCellAt b) (sum (areaLength b) a)
-  data-words zero l = refl
-  data-words (suc a) l =
-      ap (λ (z : List (List Obj)). dataWords z) (tab-snoc (areaOf b) a)
-      ∙ data-snoc (tab (areaOf b) a) (areaOf b a)
-      ∙ ap (λ (z : List Cell). z ++ map cellOf (areaOf b a)) (data-words a (omega arith))
-      ∙ ap (λ (z : List Cell). tab (dataCellAt b) (sum (areaLength b) a) ++ z) (area-words a (omega arith))
-      ∙ sym (tab-append (dataCellAt b) (sum (areaLength b) a) (areaLength b a))
-
-  -- all of them are the cells of the data section
+  -- the areas are the cells of the data section
   pub initial-areas : dataWords (initial b .areas) ≡ cellsFrom b (word b 10) (dataCells b)
   unfolding initial cellsFrom
-  initial-areas =
-      let e : sum (areaLength b) (areas b) ≡ dataCells b = eqb-true (sum (areaLength b) (areas b)) (dataCells b) (w .all-cells) in
-      rw e at (data-words (areas b) (omega arith))
+  initial-areas = areas-words b w (dataCellAt b) (data-is b w y)
 
   -- ---- the bottom frame
 
-  temp-words : map cellOf (initialTemps b 0) ≡ cellsFrom b (word b 9 + 8 * firstTemp b 0) (temps b 0)
-  unfolding cellsFrom
-  temp-words =
-      map-tab cellOf (λ k. constantOf b (firstTemp b 0 + k)) (temps b 0)
-      ∙ tab-same (λ k. cellOf (constantOf b (firstTemp b 0 + k))) (λ k. cellFrom b (word b 9 + 8 * firstTemp b 0 + 8 * k)) (temps b 0)
-      (λ k h.
-      let e : word b 9 + 8 * (firstTemp b 0 + k) ≡ word b 9 + 8 * firstTemp b 0 + 8 * k = omega arith in
-      cell-object (boundsOf b) (constantAt b (firstTemp b 0 + k)) (fit-from b (word b 9 + 8 * (firstTemp b 0 + k)) y .value)
-      (w .every-constant (firstTemp b 0 + k) (omega (arith, temps-in b w 0 (some-program b w))))
-      ∙ ap (λ (at : ℕ). cellFrom b at) e)
-
   pub initial-control : controlWords (initial b .ctrl) ≡ (cell 6 0 0 ∷ cell 1 0 0 ∷ []) ++ cellsFrom b (word b 9 + 8 * firstTemp b 0) (temps b 0)
-  unfolding initial
-  initial-control = ap (λ (z : List Cell). cell 6 0 0 ∷ cell 1 0 0 ∷ z) temp-words
+  unfolding initial cellsFrom
+  initial-control = ap (λ (z : List Cell). cell 6 0 0 ∷ cell 1 0 0 ∷ z) (temps-words b w y 0 (some-program b w))
 
 -- ---- the buffers
-
--- what the code knows of every slice
-abbrev Octets : List ℕ → Type 0
-Octets x = (m : ℕ) → Fits w8 (getD x m 0)
-
-bytes : (x : List ℕ) → Octets x → Bytes x
-bytes x o m = o m .fits
 
 pub cleared : (b e : List ℕ) (n : ℕ) → Octets e → length b ≡ 8 * room b → Became b e (n - n) (drop n (stk b n)) → Cleared b e
 cleared b e n y l p =

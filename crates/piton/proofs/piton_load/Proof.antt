@@ -1,6 +1,5 @@
 -- `piton::piton_load` meets its contract. Assumes nothing.
-use Rattle.calls.proofs.Laws.{said-fine}
-use Rattle.calls.proofs.Laws.{loads}
+use Rattle.calls.proofs.Laws.{said-fine, loads}
 use borrow.Author.Needs.{needs}
 use Rattle.piton.proofs.piton_load.Statement.{statement}
 use Rattle.piton.proofs.piton_load.Tie as tie

@@ -25,7 +25,7 @@ use Rattle.image.specs.declared.Counts.{Counts}
 use Rattle.image.specs.declared.Offsets.{Offsets}
 use Rattle.image.specs.declared.Section.{Section}
 use Rattle.image.specs.declared.Section.the-variants.{Constants, Cells}
-use Rattle.image.specs.View.{sizeOf, placeOf, AreRecords}
+use Rattle.image.specs.View.{sizeOf, recordPlace, AreRecords}
 use Rattle.image.proofs.Records.{cell-read}
 use Rattle.image.specs.Laid.{Laid, Counted, countsOf, offsetsOf}
 use Rattle.accept.specs.declared.instructions.Own.{Own}
@@ -126,7 +126,7 @@ placed b x e f r = record { lie = lie; few = r .instructions .1 }
 
 -- a row that is the records of a section of cells
 row-is : (b : List ℕ) (at : Offsets) (l : Laid b at) (s : Section) (many place : ℕ) (row : List ℕ) (from : ℕ) → sizeOf s ≡ 8
-    → AreRecords b at s 0 many row → from ≡ placeOf at s 0
+    → AreRecords b at s 0 many row → from ≡ recordPlace at s 0
     → rowTests b row many place ≡ tab (λ k. test 16 (place + k) (objectp (boundsOf b) (cellFrom b (from + 8 * k)))) many
 unfolding rowTests cellOk
 row-is b at l s many place row from eight are e =

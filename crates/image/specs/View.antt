@@ -34,10 +34,10 @@ countOf Instructions b = instructions b
 countOf Constants b = constants b
 countOf Cells b = dataCells b
 
-abbrev pub placeOf : Offsets → Section → ℕ → ℕ
-placeOf at s n = beginOf at s + sizeOf s * n
+abbrev pub recordPlace : Offsets → Section → ℕ → ℕ
+recordPlace at s n = beginOf at s + sizeOf s * n
 
 -- bytes that are k records of a section, from record n on
 pub record AreRecords (b : List ℕ) (at : Offsets) (s : Section) (n k : ℕ) (r : List ℕ) : Type 0 where
-  pub bytes : r ≡ take (sizeOf s * k) (drop (placeOf at s n) b)
+  pub bytes : r ≡ take (sizeOf s * k) (drop (recordPlace at s n) b)
   pub long : length r ≡ sizeOf s * k

@@ -9,7 +9,7 @@ ghost use Rattle.scope.specs.Image.{word, programs, areas, instructions, consta
 ghost use Rattle.scope.specs.Image.{instructionAt, constantAt, areaLength, instructionCount};
 ghost use Rattle.scope.specs.Checks.{boundsOf};
 ghost use Rattle.image.specs.Laid.{countsOf, offsetsOf, Laid, Counted};
-ghost use Rattle.image.specs.View.{beginOf, sizeOf, countOf, placeOf, viewOf, AreRecords};
+ghost use Rattle.image.specs.View.{beginOf, sizeOf, countOf, recordPlace, viewOf, AreRecords};
 use scope::Cell;
 use scope::DataOffset;
 use scope::Instruction;
@@ -128,8 +128,8 @@ fn span(s: Section, k: usize) -> usize
 
 // Where record n of a section begins.
 fn place(at: Offsets, s: Section, n: usize) -> usize
-    requires { ⌜ placeOf at s n < 65536 ⌝ }
-    ensures { λ r. ⌜ r ≡ placeOf at s n ⌝ }
+    requires { ⌜ recordPlace at s n < 65536 ⌝ }
+    ensures { λ r. ⌜ r ≡ recordPlace at s n ⌝ }
 {
     begin(at, s) + span(s, n)
 }

@@ -24,7 +24,7 @@ use Rattle.scope.proofs.Tabs.{length-tab, map-tab, tab-same, tab-append, all-ta
 use Rattle.cells.proofs.Laws.{length-cells, cells-none, fit-cell, fit-from}
 use Rattle.stacks.specs.Stack.{room, stk}
 use Rattle.stacks.proofs.Laws.{length-stk}
-use Rattle.link.specs.Pack.{Lent, Kept}
+use Rattle.link.specs.Pack.{Lent, HeldState}
 use Rattle.scope.proofs.Objects.{pc-in, cell-object}
 use Rattle.link.proofs.Objects.{Good, object-legal}
 use Rattle.link.proofs.Held.{length-words, Sees, sees-holds}
@@ -200,7 +200,7 @@ module _ (b : List ℕ) (w : WellFormed b) (y : Bytes b) where
   stack-legal d z t (suc n) yt g =
       (legal d z (cellAt t n) (g n (omega arith), fit-cell t n yt), stack-legal d z t n yt (λ i l. g i (omega arith)))
 
-  pub found : (r : Registers) (d t c : List ℕ) → Lent b d t c → StateOk b r d t c → Kept b r d t c
+  pub found : (r : Registers) (d t c : List ℕ) → Lent b d t c → StateOk b r d t c → HeldState b r d t c
   unfolding objects textOf cells
   found r d t c n h =
       let gd : (k : ℕ) → k < dataCells b → Good (boundsOf b) (cellAt d k) = λ k l. (h .data-objects k l, fit-cell d k (n .data-bytes)) in

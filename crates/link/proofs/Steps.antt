@@ -126,7 +126,7 @@ module _ (b : List ℕ) (w : WellFormed b) (y : Bytes b) (s : State) (k : Proper
       rw (type-test m s x h ADDR, tag-of x, le-leb 2 (length (x ∷ z ∷ t)) (omega arith)) (by (eqb (type x) 5) refl)
     where
       by : (v : Bool) → eqb (type x) 5 ≡ v
-          → needs v 2 (next (B.onward (controlWords (s .ctrl)) (map cellOf t) (set (dataWords D) (B.placeOf b (cellOf x)) (cellOf z)) (running s)))
+          → needs v 2 (next (B.onward (controlWords (s .ctrl)) (map cellOf t) (set (dataWords D) (B.cellPlace b (cellOf x)) (cellOf z)) (running s)))
           ≡ ends-in (need v 2 0) (onward (s .ctrl) t (set D (area-name x) (set (area D (area-name x)) (offset x) z)) s)
       by true e =
           let q : type x ≡ ADDR = eqb-true (type x) 5 e in

@@ -22,7 +22,7 @@ use Rattle.cells.specs.Rows.{Sized}
 use Rattle.cells.proofs.Laws.{getD-cells}
 use Rattle.stacks.specs.Stack.{room}
 use Rattle.packed.specs.Packed.{Packed, steps, seen, Roomy}
-use Rattle.link.specs.Pack.{pack, Lent, Kept}
+use Rattle.link.specs.Pack.{pack, Lent, HeldState}
 use Rattle.link.proofs.Objects.{object-cell}
 use Rattle.link.proofs.Held as H
 use Rattle.link.proofs.Held.{Sees}
@@ -79,7 +79,7 @@ module _ (b : List ℕ) (w : WellFormed b) (y : Bytes b) where
 
   module _ (r : Registers) (d t c : List ℕ) (n : Lent b d t c) where
     -- A well-formed state holds a proper p-state ..
-    pub found : StateOk b r d t c → Kept b r d t c
+    pub found : StateOk b r d t c → HeldState b r d t c
     found = E.found b w y r d t c n
 
     -- .. and what holds a proper p-state is a well-formed state.

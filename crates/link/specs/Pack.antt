@@ -34,6 +34,6 @@ pub record Lent (b d t c : List ℕ) : Type 0 where
   pub sized : Sized b d t c
 
 -- the one that they hold
-pub record Kept (b : List ℕ) (r : Registers) (d t c : List ℕ) : Type 0 where
+pub record HeldState (b : List ℕ) (r : Registers) (d t c : List ℕ) : Type 0 where
   pub state : State
   pub keeps : Keeps b r d t c state

@@ -31,7 +31,7 @@ use Rattle.ops.specs.declared.Chosen.{Chosen}
 use Rattle.ops.specs.declared.Chosen.the-variants as C
 use Rattle.ops.specs.Ops.{addAddr, raised, choiceOf}
 use Rattle.packed.specs.Packed.{Packed, Out, next, fails, needs, settle, seen, onward, goto, pushes, drops, madeOn, unaryOn, binaryOn}
-use Rattle.packed.specs.Packed.{placeOf, fetched, depositsOn, storesData, storesLocal, testsOn, testedOn, choosesOn, chosenOn, returns, tempCells, calls}
+use Rattle.packed.specs.Packed.{cellPlace, fetched, depositsOn, storesData, storesLocal, testsOn, testedOn, choosesOn, chosenOn, returns, tempCells, calls}
 use Rattle.machine.specs.Shapes.{makes, unaries, binaries, addAddrIn, fetches, puts, deposits, dataStores, localStores, jumps, passes, tests, cases}
 use Rattle.machine.specs.Did.{placedOf, stoppedOf, erredOf, returnedOf, enteredOf, frameHead, Did, DidTemporary, DidData, DidControl, DidFrame}
 use Rattle.machine.specs.Did.{DidRegisters, PutData, PutLocal, Left, Opened, Entered}
@@ -181,7 +181,7 @@ points-at b t n k a e p l = rw e (p .every k (omega (arith, length-stk t n)))
 pub points-area : (b : List ℕ) (a : Cell) → Points b a → a .tag ≡ 5 → a .name < areas b
 points-area b a p e = p .area e
 
-module _ (b d : List ℕ) (a : Cell) (p : ℕ) (h : Points b a) (e : p ≡ placeOf b a) (g : room d ≡ dataCells b) where
+module _ (b d : List ℕ) (a : Cell) (p : ℕ) (h : Points b a) (e : p ≡ cellPlace b a) (g : room d ≡ dataCells b) where
   pub points-room : a .tag ≡ 5 → p < room d
   points-room z = omega (arith, h .within z)
 
@@ -191,14 +191,14 @@ module _ (b d : List ℕ) (a : Cell) (p : ℕ) (h : Points b a) (e : p ≡ place
   pub named-yes : (x : Cell) → a .tag ≡ 5 → x ≡ cellAt d p → Is x ≡ fetched b (cells (room d) d) a
   unfolding fetched choose
   named-yes x z q =
-      rw (eq-eqb (a .tag) 5 z) (ap Is (q ∙ ap (cellAt d) e ∙ sym (getD-cells (room d) (placeOf b a) d (omega (arith, h .within z)))))
+      rw (eq-eqb (a .tag) 5 z) (ap Is (q ∙ ap (cellAt d) e ∙ sym (getD-cells (room d) (cellPlace b a) d (omega (arith, h .within z)))))
 
 pub named-no : (b : List ℕ) (y : List Cell) (a : Cell) → (a .tag ≡ 5 → ⊥) → No 2 ≡ fetched b y a
 unfolding fetched choose
 named-no b y a z = rw (ne-eqb (a .tag) 5 z)
 
 pub place-is : (b : List ℕ) (a : Cell) (first : ℕ) (o : DataOffset) → first ≡ areaField b (a .name) 0 → o ≡ record { 0 = a .value }
-    → first + o .0 ≡ placeOf b a
+    → first + o .0 ≡ cellPlace b a
 place-is b a first o p q = rw (p, q)
 
 -- the length counts only where top1 is an ADDR
@@ -258,7 +258,7 @@ module _ (b : List ℕ) (code : ℕ) (r q : Registers) (d t : List ℕ) where
   unfolding puts needs
   no-put a x z e h = fail-data (puts b a x) code r q d t 2 e h (λ c. rw (ne-eqb (a .tag) 5 z))
 
-  pub did-put : (d′ t′ : List ℕ) (a x : Cell) (p : ℕ) → a .tag ≡ 5 → p ≡ placeOf b a → PutData 2 p x r d t q d′ t′
+  pub did-put : (d′ t′ : List ℕ) (a x : Cell) (p : ℕ) → a .tag ≡ 5 → p ≡ cellPlace b a → PutData 2 p x r d t q d′ t′
       → DidData (puts b a x) code r d t q d′ t′
   unfolding puts needs
   did-put d′ t′ a x p z e w =

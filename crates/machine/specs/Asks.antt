@@ -10,7 +10,7 @@ use Rattle.scope.specs.Image.{programs, areas, constants, dataCells, controlLim
 use Rattle.image.specs.declared.Offsets.{Offsets}
 use Rattle.image.specs.Laid.{Laid}
 use Rattle.stacks.specs.Stack.{room, Held}
-use Rattle.packed.specs.Packed.{placeOf}
+use Rattle.packed.specs.Packed.{cellPlace}
 
 -- the temporary buffer holds as many cells as the registers say, and the pc can go up by one
 pub record Poised (r : Registers) (t : List ℕ) : Type 0 where
@@ -22,7 +22,7 @@ pub record Poised (r : Registers) (t : List ℕ) : Type 0 where
 -- an ADDR names an area, and a data cell
 pub record Points (b : List ℕ) (a : Cell) : Type 0 where
   pub area : a .tag ≡ 5 → a .name < areas b
-  pub within : a .tag ≡ 5 → placeOf b a < dataCells b
+  pub within : a .tag ≡ 5 → cellPlace b a < dataCells b
 
 -- each ADDR among the cells x does
 pub record Pointing (b : List ℕ) (x : List Cell) : Type 0 where

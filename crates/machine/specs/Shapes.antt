@@ -8,7 +8,7 @@ use Rattle.scope.specs.Image.{areaLength}
 use Rattle.ops.specs.declared.Made.{Made}
 use Rattle.ops.specs.declared.Tested.{Tested}
 use Rattle.ops.specs.Ops.{addAddr}
-use Rattle.packed.specs.Packed.{Packed, Out, next, needs, placeOf, onward, goto, madeOn, unaryOn, binaryOn, fetched, depositsOn}
+use Rattle.packed.specs.Packed.{Packed, Out, next, needs, cellPlace, onward, goto, madeOn, unaryOn, binaryOn, fetched, depositsOn}
 use Rattle.packed.specs.Packed.{storesLocal, storesData, testsOn, choosesOn}
 
 -- what was made of the k uppermost cells takes their place
@@ -30,7 +30,7 @@ fetches b s = unaryOn (fetched b (s .areas)) s (s .temp)
 
 -- x where the ADDR a points, and both off
 unfoldable pub puts : List ℕ → Cell → Cell → Packed → Out
-puts b a x s = needs (eqb (a .tag) 5) 2 (next (onward (s .ctrl) (drop 2 (s .temp)) (set (s .areas) (placeOf b a) x) s))
+puts b a x s = needs (eqb (a .tag) 5) 2 (next (onward (s .ctrl) (drop 2 (s .temp)) (set (s .areas) (cellPlace b a) x) s))
 
 unfoldable pub deposits : List ℕ → Packed → Out
 deposits b s = depositsOn b s (s .temp)

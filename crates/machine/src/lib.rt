@@ -9,7 +9,7 @@ ghost use Rattle.scope.specs.Image.{areas, areaLength, dataCells, constants, co
 ghost use Rattle.cells.specs.Rows.{cells};
 ghost use Rattle.image.specs.Laid.{Laid};
 ghost use Rattle.ops.specs.Ops.{unaryOf, binaryOf, testOf};
-ghost use Rattle.packed.specs.Packed.{pushes, drops, placeOf, fetched, returns, calls};
+ghost use Rattle.packed.specs.Packed.{pushes, drops, cellPlace, fetched, returns, calls};
 ghost use Rattle.machine.specs.Shapes.{makes, unaries, binaries, addAddrIn, fetches, puts, deposits, dataStores, localStores};
 ghost use Rattle.machine.specs.Shapes.{jumps, passes, tests, cases};
 ghost use Rattle.machine.specs.Did.{placedOf, stoppedOf, erredOf, returnedOf, enteredOf, DidTemporary, DidData, DidControl, DidFrame};
@@ -213,7 +213,7 @@ pub fn add_addr(
 // The data cell that an ADDR names.
 fn place(image: &[u8], at: Offsets, a: Cell) -> usize
     requires { ⌜ Laid (now image) at × (a .name < areas (now image)) ⌝ }
-    ensures { λ p. ⌜ p ≡ placeOf (now (image .entry)) a ⌝ }
+    ensures { λ p. ⌜ p ≡ cellPlace (now (image .entry)) a ⌝ }
 {
     let o = cells::data_offset(a);
     image::area_field(image, at, a.name as usize, 0) as usize + o.0 as usize

@@ -85,17 +85,17 @@ storesData k at s [] = fails 1
 storesData k at s (a ∷ rest) = next (onward (s .ctrl) (drop k (a ∷ rest)) (set (s .areas) at a) s)
 
 -- the data cell that an ADDR names
-abbrev pub placeOf : List ℕ → Cell → ℕ
-placeOf b a = firstCell b (a .name) + a .value
+abbrev pub cellPlace : List ℕ → Cell → ℕ
+cellPlace b a = firstCell b (a .name) + a .value
 
 -- FETCH, DEPOSIT
 unfoldable pub fetched : List ℕ → List Cell → Cell → Made
-fetched b d a = choose (eqb (a .tag) 5) (Is (getD d (placeOf b a) free)) (No 2)
+fetched b d a = choose (eqb (a .tag) 5) (Is (getD d (cellPlace b a) free)) (No 2)
 
 unfoldable pub depositsOn : List ℕ → Packed → List Cell → Out
 depositsOn b s [] = fails 1
 depositsOn b s (a ∷ []) = fails 1
-depositsOn b s (a ∷ c ∷ rest) = needs (eqb (a .tag) 5) 2 (next (onward (s .ctrl) rest (set (s .areas) (placeOf b a) c) s))
+depositsOn b s (a ∷ c ∷ rest) = needs (eqb (a .tag) 5) 2 (next (onward (s .ctrl) rest (set (s .areas) (cellPlace b a) c) s))
 
 -- TEST-..: to place o if the test holds of the top
 unfoldable pub testedOn : Packed → ℕ → List Cell → Tested → Out

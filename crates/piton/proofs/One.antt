@@ -16,7 +16,7 @@ use Rattle.scope.specs.States.{StateOk}
 use Rattle.scope.specs.Holding.{textOf, controlWords, buffer, Holds}
 use Rattle.scope.specs.Calls.{numberOf, placeOf, loadSays, answerOf, Same, SameLengths, Loads, Runs, Steps, Reports}
 use Rattle.scope.specs.Calls.{StateSays, before, ill-formed, well-formed}
-use Rattle.link.specs.Pack.{Kept}
+use Rattle.link.specs.Pack.{HeldState}
 use Rattle.sealed.proofs.Counts.{count-one}
 use Rattle.sealed.proofs.Report.{report-one}
 use Rattle.piton.proofs.States.{said-well, kept-to-run, kept-to-report}
@@ -81,8 +81,8 @@ module _ (v : Checked) (b : List ℕ) (r : Registers) (d t c : List ℕ) where
   says-one x y (well-formed e h) (well-formed f k) = refl
 
   -- so two answers are one refusal, or both take a state that holds a p-state
-  either : {R : Type 0} → (v ≡ Fine → StateOk b r d t c → Kept b r d t c) → (x y : Checked) → StateSays v b r d t c x → StateSays v b r d t c y
-      → ((n p : ℕ) → x ≡ Refused n p → y ≡ Refused n p → R) → (x ≡ Fine → y ≡ Fine → Kept b r d t c → R) → R
+  either : {R : Type 0} → (v ≡ Fine → StateOk b r d t c → HeldState b r d t c) → (x y : Checked) → StateSays v b r d t c x → StateSays v b r d t c y
+      → ((n p : ℕ) → x ≡ Refused n p → y ≡ Refused n p → R) → (x ≡ Fine → y ≡ Fine → HeldState b r d t c → R) → R
   either {R} kept x y sx sy f g = by x refl
     where
       by : (z : Checked) → x ≡ z → R

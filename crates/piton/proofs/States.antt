@@ -23,7 +23,7 @@ use Rattle.scope.proofs.Tests.{both-fine}
 use Rattle.accept.proofs.Exact.{accepted-formed}
 use Rattle.cells.specs.Rows.{Sized}
 use Rattle.states.proofs.Lengths.{still-sized, sized, bottom-room}
-use Rattle.link.specs.Pack.{Lent, Kept}
+use Rattle.link.specs.Pack.{Lent, HeldState}
 use Rattle.link.proofs.Theorems.{initial-proper, found, formed, one-state}
 
 -- what is not refused
@@ -48,13 +48,13 @@ module _ (b d t c : List ℕ) (yb : Bytes b) (yd : Bytes d) (yt : Bytes t) (yc :
 
   module _ (r : Registers) where
     -- the p-state of what is accepted
-    kept : (imageSays b ≡ Fine) × Sized b d t c → StateOk b r d t c → Kept b r d t c
+    kept : (imageSays b ≡ Fine) × Sized b d t c → StateOk b r d t c → HeldState b r d t c
     kept v o = found b (accepted-formed b (v .0)) yb r d t c (lent (v .1)) o
 
-    pub kept-to-run : runSays b (length d) (length t) (length c) ≡ Fine → StateOk b r d t c → Kept b r d t c
+    pub kept-to-run : runSays b (length d) (length t) (length c) ≡ Fine → StateOk b r d t c → HeldState b r d t c
     kept-to-run e o = kept (run-accepted b d t c e) o
 
-    pub kept-to-report : (k : ℕ) → reportSays b (length d) (length t) (length c) k ≡ Fine → StateOk b r d t c → Kept b r d t c
+    pub kept-to-report : (k : ℕ) → reportSays b (length d) (length t) (length c) k ≡ Fine → StateOk b r d t c → HeldState b r d t c
     unfolding reportSays
     kept-to-report k e o = kept (accepted b d t c _ e) o
 

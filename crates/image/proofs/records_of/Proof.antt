@@ -46,7 +46,7 @@ use denote.Exit.{yes}
 use Rattle.image.specs.declared.Section.{Section}
 use Rattle.image.specs.declared.View.{View}
 use Rattle.image.specs.Laid.{Laid}
-use Rattle.image.specs.View.{sizeOf, countOf, placeOf, AreRecords}
+use Rattle.image.specs.View.{sizeOf, countOf, recordPlace, AreRecords}
 use Rattle.image.proofs.Records.{place-small, span-small, part-in, are-records}
 use Rattle.image.proofs.Walks.{ViewAt, Bytes, bytesVal, sectionVal, has-offsets, has-section, has-number, returned}
 use Rattle.image.proofs.Offsets as O
@@ -164,7 +164,7 @@ module _ {M : Type 1} (𝓤 : URA M) (H : Heap 𝓤) (A : Atoms 𝓤) (W : Given
   module _ (is-o : Is O.the-row (d .at) (vo ∷ [])) (is-s : Is S.the-row s (vs ∷ [])) (is-n : Is usize n (vn ∷ []))
       (is-k : Is usize k (vk ∷ [])) where
     -- `place` and `span` ask facts alone
-    goes-place : placeOf (d .at) s n < 65536 → ent 𝓤 (emp 𝓤) (Place 𝓤 H A mem run .pre to-place)
+    goes-place : recordPlace (d .at) s n < 65536 → ent 𝓤 (emp 𝓤) (Place 𝓤 H A mem run .pre to-place)
     goes-place small =
         qed W [] ∵ says ! small $ nothing ! $ has-number ! n _ is-n $ fjoin ! $ has-section ! s _ is-s $ fjoin ! $ has-offsets ! (d .at) _ is-o $
         fjoin ! $ nothing ! $ frame ! $ done !
@@ -200,7 +200,7 @@ module _ {M : Type 1} (𝓤 : URA M) (H : Heap 𝓤) (A : Atoms 𝓤) (W : Given
           use0 W (raw (Place 𝓤 H A mem run .pre to-place)) (goes-place (place-small (now (d .image)) (d .at) (asked .0) s n k (asked .1))) $
           calls-at ! fm (Place 𝓤 H A mem run) known-place to-place (and-then ! (load ! (from ! (stop !)) (look ! 3 refl))
           (and-then ! (load ! (from ! (stop !)) (look ! 13 refl)) (and-then ! (load ! (from ! (stop !)) (look ! 11 refl)) (no-more !)))) (λ u.
-          returned W ! tt place.ended tt (d .at, (s, (n, tt))) (‵ ftrue) usize u (λ r. r ≡ placeOf (d .at) s n) (λ from′ e is-u.
+          returned W ! tt place.ended tt (d .at, (s, (n, tt))) (‵ ftrue) usize u (λ r. r ≡ recordPlace (d .at) s n) (λ from′ e is-u.
           land ! (from ! (stop !)) (init ! 6 refl (uint-lawful 𝓤 H A W w64 .typed from′ _ is-u .0)) $ drop ! $ drop ! $
           use0 W (raw (Span 𝓤 H A mem run .pre to-span)) (goes-span (span-small (now (d .image)) (d .at) (asked .0) s n k (asked .1))) $
           calls-at ! fm (Span 𝓤 H A mem run) known-span to-span (and-then ! (load ! (from ! (stop !)) (look ! 13 refl))

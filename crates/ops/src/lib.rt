@@ -191,7 +191,7 @@ fn addr_before(x: DataOffset, y: DataOffset) -> bool
 }
 
 // EQ, code 18.
-pub fn eq(b: Cell, a: Cell) -> Made
+fn eq(b: Cell, a: Cell) -> Made
     ensures { λ r. ⌜ r ≡ eqCells b a ⌝ }
 {
     if a.tag == b.tag {
@@ -213,7 +213,7 @@ pub fn add_addr(length: u32, b: Cell, a: Cell) -> Made
 }
 
 // SUB-ADDR, code 20.
-pub fn sub_addr(b: Cell, a: Cell) -> Made
+fn sub_addr(b: Cell, a: Cell) -> Made
     ensures { λ r. ⌜ r ≡ subAddr b a ⌝ }
 {
     if are(NAT, ADDR, b, a) {
@@ -224,7 +224,7 @@ pub fn sub_addr(b: Cell, a: Cell) -> Made
 }
 
 // LT-ADDR, code 21.
-pub fn lt_addr(b: Cell, a: Cell) -> Made
+fn lt_addr(b: Cell, a: Cell) -> Made
     ensures { λ r. ⌜ r ≡ ltAddr b a ⌝ }
 {
     if are(ADDR, ADDR, b, a) {
@@ -239,7 +239,7 @@ pub fn lt_addr(b: Cell, a: Cell) -> Made
 }
 
 // ADD-INT, code 24.
-pub fn add_int(b: Cell, a: Cell) -> Made
+fn add_int(b: Cell, a: Cell) -> Made
     ensures { λ r. ⌜ r ≡ addInt 32 b a ⌝ }
 {
     if are(INT, INT, b, a) {
@@ -250,7 +250,7 @@ pub fn add_int(b: Cell, a: Cell) -> Made
 }
 
 // SUB-INT, code 25.
-pub fn sub_int(b: Cell, a: Cell) -> Made
+fn sub_int(b: Cell, a: Cell) -> Made
     ensures { λ r. ⌜ r ≡ subInt 32 b a ⌝ }
 {
     if are(INT, INT, b, a) {
@@ -261,7 +261,7 @@ pub fn sub_int(b: Cell, a: Cell) -> Made
 }
 
 // NEG-INT, code 26.
-pub fn neg_int(a: Cell) -> Made
+fn neg_int(a: Cell) -> Made
     ensures { λ r. ⌜ r ≡ negInt 32 a ⌝ }
 {
     if a.tag == INT {
@@ -272,7 +272,7 @@ pub fn neg_int(a: Cell) -> Made
 }
 
 // LT-INT, code 27.
-pub fn lt_int(b: Cell, a: Cell) -> Made
+fn lt_int(b: Cell, a: Cell) -> Made
     ensures { λ r. ⌜ r ≡ ltInt b a ⌝ }
 {
     if are(INT, INT, b, a) {
@@ -283,7 +283,7 @@ pub fn lt_int(b: Cell, a: Cell) -> Made
 }
 
 // INT-TO-NAT, code 28.
-pub fn int_to_nat(a: Cell) -> Made
+fn int_to_nat(a: Cell) -> Made
     ensures { λ r. ⌜ r ≡ intToNat a ⌝ }
 {
     if a.tag == INT {
@@ -298,7 +298,7 @@ pub fn int_to_nat(a: Cell) -> Made
 }
 
 // ADD-NAT, code 29.
-pub fn add_nat(b: Cell, a: Cell) -> Made
+fn add_nat(b: Cell, a: Cell) -> Made
     ensures { λ r. ⌜ r ≡ addNat 32 b a ⌝ }
 {
     if are(NAT, NAT, b, a) {
@@ -309,7 +309,7 @@ pub fn add_nat(b: Cell, a: Cell) -> Made
 }
 
 // ADD1-NAT, code 30.
-pub fn add1_nat(a: Cell) -> Made
+fn add1_nat(a: Cell) -> Made
     ensures { λ r. ⌜ r ≡ add1Nat 32 a ⌝ }
 {
     if a.tag == NAT {
@@ -320,7 +320,7 @@ pub fn add1_nat(a: Cell) -> Made
 }
 
 // SUB-NAT, code 31.
-pub fn sub_nat(b: Cell, a: Cell) -> Made
+fn sub_nat(b: Cell, a: Cell) -> Made
     ensures { λ r. ⌜ r ≡ subNat b a ⌝ }
 {
     if are(NAT, NAT, b, a) {
@@ -331,7 +331,7 @@ pub fn sub_nat(b: Cell, a: Cell) -> Made
 }
 
 // SUB1-NAT, code 32.
-pub fn sub1_nat(a: Cell) -> Made
+fn sub1_nat(a: Cell) -> Made
     ensures { λ r. ⌜ r ≡ sub1Nat a ⌝ }
 {
     if a.tag == NAT {
@@ -342,7 +342,7 @@ pub fn sub1_nat(a: Cell) -> Made
 }
 
 // LT-NAT, code 33.
-pub fn lt_nat(b: Cell, a: Cell) -> Made
+fn lt_nat(b: Cell, a: Cell) -> Made
     ensures { λ r. ⌜ r ≡ ltNat b a ⌝ }
 {
     if are(NAT, NAT, b, a) {
@@ -353,7 +353,7 @@ pub fn lt_nat(b: Cell, a: Cell) -> Made
 }
 
 // OR-BOOL, code 34.
-pub fn or_bool(b: Cell, a: Cell) -> Made
+fn or_bool(b: Cell, a: Cell) -> Made
     ensures { λ r. ⌜ r ≡ orBool b a ⌝ }
 {
     if are(BOOL, BOOL, b, a) {
@@ -364,7 +364,7 @@ pub fn or_bool(b: Cell, a: Cell) -> Made
 }
 
 // AND-BOOL, code 35.
-pub fn and_bool(b: Cell, a: Cell) -> Made
+fn and_bool(b: Cell, a: Cell) -> Made
     ensures { λ r. ⌜ r ≡ andBool b a ⌝ }
 {
     if are(BOOL, BOOL, b, a) {
@@ -375,7 +375,7 @@ pub fn and_bool(b: Cell, a: Cell) -> Made
 }
 
 // NOT-BOOL, code 36.
-pub fn not_bool(a: Cell) -> Made
+fn not_bool(a: Cell) -> Made
     ensures { λ r. ⌜ r ≡ notBool a ⌝ }
 {
     if a.tag == BOOL {
@@ -441,7 +441,7 @@ fn asks_sign(condition: u8, zero: bool, negative: bool) -> bool
 }
 
 // TEST-NAT, code 14.
-pub fn test_nat(condition: u8, a: Cell) -> Tested
+fn test_nat(condition: u8, a: Cell) -> Tested
     ensures { λ r. ⌜ r ≡ testNat condition a ⌝ }
 {
     if a.tag == NAT {
@@ -452,7 +452,7 @@ pub fn test_nat(condition: u8, a: Cell) -> Tested
 }
 
 // TEST-INT, code 15.
-pub fn test_int(condition: u8, a: Cell) -> Tested
+fn test_int(condition: u8, a: Cell) -> Tested
     ensures { λ r. ⌜ r ≡ testInt condition a ⌝ }
 {
     if a.tag == INT {
@@ -463,7 +463,7 @@ pub fn test_int(condition: u8, a: Cell) -> Tested
 }
 
 // TEST-BOOL, code 16.
-pub fn test_bool(condition: u8, a: Cell) -> Tested
+fn test_bool(condition: u8, a: Cell) -> Tested
     ensures { λ r. ⌜ r ≡ testBool condition a ⌝ }
 {
     if a.tag == BOOL {

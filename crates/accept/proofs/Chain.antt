@@ -29,7 +29,7 @@ use Rattle.image.specs.View.{sizeOf, recordPlace, AreRecords}
 use Rattle.image.proofs.Records.{cell-read}
 use Rattle.image.specs.Laid.{Laid, Counted, countsOf, offsetsOf}
 use Rattle.accept.specs.declared.instructions.Own.{Own}
-use Rattle.accept.specs.Facts.{Ranged, Joined, Placed, Through, Owns, ownOf, boundsBy, Bounds, allCodes, cellOk, rowTests}
+use Rattle.accept.specs.Facts.{Ranged, Joined, Placed, Through, Owns, ownOf, boundsBy, OperandBounds, allCodes, cellOk, rowTests}
 use Rattle.accept.specs.Facts.{afterAreas, afterPrograms, afterSections, afterRanges, afterLength}
 
 -- ---- 12
@@ -172,10 +172,10 @@ owned b q p e w l =
     let t : Owns b (ownOf b p) = record { first-is = refl; count-is = refl; lie = w .lie p l; few = w .few } in
     rw e t
 
-pub bounded : (b bounds : List ℕ) (n : Counts) (q : Own) (p : ℕ) → Counted b n → q ≡ ownOf b p → bounds ≡ boundsBy n q → Bounds b (q .program) bounds
+pub bounded : (b bounds : List ℕ) (n : Counts) (q : Own) (p : ℕ) → Counted b n → q ≡ ownOf b p → bounds ≡ boundsBy n q → OperandBounds b (q .program) bounds
 unfolding operandBound
 bounded b bounds n q p k e h =
-    let t : Bounds b p (boundsBy n (ownOf b p)) = record { right = λ kind. rw (← k .programs-are, ← k .constants-are, ← k .areas-are) } in
+    let t : OperandBounds b p (boundsBy n (ownOf b p)) = record { right = λ kind. rw (← k .programs-are, ← k .constants-are, ← k .areas-are) } in
     rw (h, e) t
 
 pub of-own : (b : List ℕ) (q : Own) (p : ℕ) (r : Checked) → q ≡ ownOf b p → r ≡ firstFailing (codeTests b (q .program)) → r ≡ firstFailing (codeTests b p)

@@ -19,7 +19,7 @@ use Rattle.image.specs.declared.Counts.{Counts}
 use Rattle.image.specs.Laid.{Counted}
 use Rattle.kinds.specs.Kinds.{Kinds}
 use Rattle.accept.specs.declared.instructions.Own.{Own}
-use Rattle.accept.specs.Facts.{Passing, caseAt, RunAt, RunsFrom, Owns, Bounds, kindOk, partsOk}
+use Rattle.accept.specs.Facts.{Passing, caseAt, RunAt, RunsFrom, Owns, OperandBounds, kindOk, partsOk}
 use Rattle.accept.proofs.Walks.{passing-start, passing-next, passing-stop, passing-over}
 
 -- ---- the end of a program
@@ -212,14 +212,14 @@ by-kind b bounds q o i table r t l h = h ∙ ap (kindOk b bounds q o i) (t .righ
 
 -- ---- the instructions of a program
 
-parts-are : (b bounds : List ℕ) (q : Own) (o : ℕ) (i : Instruction) → Bounds b (q .program) bounds → Owns b q → i ≡ instructionAt b (q .first + o)
+parts-are : (b bounds : List ℕ) (q : Own) (o : ℕ) (i : Instruction) → OperandBounds b (q .program) bounds → Owns b q → i ≡ instructionAt b (q .first + o)
     → partsOk b bounds q o i ≡ instructionOk b (q .program) o
 unfolding partsOk kindOk instructionOk
 parts-are b bounds q o i k w e =
     ap (λ (j : Instruction). partsOk b bounds q o j) (e ∙ ap (λ (f : ℕ). instructionAt b (f + o)) (w .first-is))
     ∙ rw (k .right _, w .count-is)
 
-module _ (b bounds : List ℕ) (q : Own) (k : Bounds b (q .program) bounds) (w : Owns b q) (o : ℕ)
+module _ (b bounds : List ℕ) (q : Own) (k : OperandBounds b (q .program) bounds) (w : Owns b q) (o : ℕ)
     (v : Passing (instructionOk b (q .program)) (q .count) o) where
   code-flag : (i : Instruction) (g t : Bool) → i ≡ instructionAt b (q .first + o) → g ≡ partsOk b bounds q o i → g ≡ t
       → instructionOk b (q .program) o ≡ t

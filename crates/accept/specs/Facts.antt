@@ -79,7 +79,7 @@ boundsBy n q =
     0 ∷ 1 ∷ n .programs ∷ n .constants ∷ q .locals ∷ n .areas ∷ 1025 ∷ q .count ∷ n .constants ∷ q .count ∷ q .count ∷ []
 
 -- the bounds of program p's operands
-pub record Bounds (b : List ℕ) (p : ℕ) (bounds : List ℕ) : Type 0 where
+pub record OperandBounds (b : List ℕ) (p : ℕ) (bounds : List ℕ) : Type 0 where
   pub right : (kind : ℕ) → getD bounds kind 0 ≡ operandBound b p kind
 
 -- constant from + k is a PC of program p

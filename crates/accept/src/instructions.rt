@@ -10,7 +10,7 @@ ghost use Rattle.scope.specs.Checks.{firstFailing};
 ghost use Rattle.scope.specs.Checks.{casesOk, ends, codeTests};
 ghost use Rattle.image.specs.Laid.{Laid, Counted};
 ghost use Rattle.kinds.specs.Kinds.{Kinds};
-ghost use Rattle.accept.specs.Facts.{Ranged, ownOf, Owns, boundsBy, Bounds, kindOk, partsOk, RunAt, RunsFrom};
+ghost use Rattle.accept.specs.Facts.{Ranged, ownOf, Owns, boundsBy, OperandBounds, kindOk, partsOk, RunAt, RunsFrom};
 ghost use Rattle.accept.specs.Facts.{Placed, allCodes};
 use image::Counts;
 use image::Offsets;
@@ -229,7 +229,7 @@ fn check_code(
     bounds: &[usize],
     q: Own,
 ) -> Checked
-    requires { ⌜ Laid (now image) at × Counted (now image) n × RunsFrom (now image) (now runs) 0 × Kinds (now kinds) × Bounds (now image) (q .program) (now bounds) × Owns (now image) q ⌝ }
+    requires { ⌜ Laid (now image) at × Counted (now image) n × RunsFrom (now image) (now runs) 0 × Kinds (now kinds) × OperandBounds (now image) (q .program) (now bounds) × Owns (now image) q ⌝ }
     ensures { λ r. ⌜ r ≡ firstFailing (codeTests (now (image .entry)) (q .program)) ⌝ }
 {
     let mut o: usize = 0;

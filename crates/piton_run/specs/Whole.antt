@@ -1,5 +1,7 @@
 -- The parts of a whole run: what load and run came to, and its lines. Nothing here has to be believed.
-use Rattle.std.specs.Prelude.{◌≡◌, List, [], ◌∷◌, ◌++◌, ℕ, ◌*◌, ◌/◌, ◌≤◌, eqb, length}
+use Rattle.std.specs.Prelude.{◌≡◌, List, [], ◌∷◌, ◌++◌, ℕ, ◌*◌, ◌/◌, ◌≤◌, eqb, length, take}
+use Rattle.std.specs.declared.option.Option.{Option}
+use Rattle.std.specs.Io.KnownBytes.{Keeps, Appends, Consumes}
 use Rattle.moore.specs.Objects.{choose}
 use Rattle.moore.specs.Machine.{P}
 use Rattle.scope.specs.declared.Cell.{Cell}
@@ -9,7 +11,7 @@ use Rattle.scope.specs.Image.{data_cells, control_limit, temporary_limit}
 use Rattle.scope.specs.Checks.{image_says}
 use Rattle.scope.specs.Holding.{text_of, initial, registers_of, data_words}
 use Rattle.scope.specs.Calls.{Count, answer_of, no_registers}
-use Rattle.scope.specs.Printing.{cell_lines, line, in_lines, budget, input_says}
+use Rattle.scope.specs.Printing.{cell_lines, line, in_lines, budget, input_says, Writes}
 use Rattle.cells.specs.Rows.{cells}
 use Rattle.cells.specs.Rows.{Sized}
 use Rattle.calls.specs.Answers.{refused_run}
@@ -56,3 +58,24 @@ lines_of cs = in_lines (cell_lines 0 cs)
 -- status 3 is that of a refusal
 unfoldable pub told : Ran → List ℕ → List ℕ
 told r d = choose (eqb r.registers.status 3) (first_line r) (first_line r ++ lines_of (cells (length d / 8) d))
+
+-- ---- from a reader to a writer
+
+-- what the writer holds grew by what is printed after b
+pub record Answered (b : List ℕ) (old new : Option (List ℕ)) : Type 0 where
+  pub text : List ℕ
+  pub writes : Writes b text
+  pub appended : Appends old new text
+
+-- it grew by a beginning of these bytes
+abbrev pub AppendsPart : Option (List ℕ) → Option (List ℕ) → List ℕ → Type 0
+AppendsPart old new bytes = (n : ℕ) × Appends old new (take n bytes)
+
+-- what a reader had left lost a beginning of these bytes
+abbrev pub ConsumesPart : Option (List ℕ) → Option (List ℕ) → List ℕ → Type 0
+ConsumesPart old new bytes = (n : ℕ) × Consumes old new (take n bytes)
+
+-- a read failed, and nothing was written; or a write failed, when a beginning of what is printed after b was
+pub data BrokenOff (b : List ℕ) (old new : Option (List ℕ)) : Type 0 where
+  unread : Keeps old new → BrokenOff b old new
+  unwritten : (text : List ℕ) → Writes b text → AppendsPart old new text → BrokenOff b old new

@@ -1,15 +1,20 @@
+#![tactic(auto)]
+
 // The run program: reads an image from standard input, loads and runs it, and prints what came of it.
-ghost use Rattle.std.specs.Prelude.{◌≡◌, ◌+◌, ◌*◌, ◌/◌, ◌≤◌, ◌<◌, length, take};
-ghost use Rattle.io.specs.Counts.{IsPrefixLen};
+ghost use Rattle.std.specs.Prelude.{◌≡◌, ◌+◌, ◌*◌, ◌/◌, ◌≤◌, ◌<◌, length, take, IfOk, OnOk, OnErr, IfSome};
+ghost use Rattle.std.specs.Counts.{IsPrefixLen};
+ghost use Rattle.std.specs.Io.KnownBytes.{Appends, Consumes, IsAtEnd};
 ghost use Rattle.scope.specs.Cells.{cell_at};
 ghost use Rattle.scope.specs.Calls.{no_registers};
 ghost use Rattle.scope.specs.Printing.{Writes};
 ghost use Rattle.cells.specs.Rows.{cells};
 ghost use Rattle.lines.specs.Written.{Wrote};
 ghost use Rattle.calls.specs.Answers.{refused_run};
-ghost use Rattle.piton_run.specs.Whole.{BytesFor, Asked, Fitting, RanWhole, first_line, cell_line, lines_of, told};
+ghost use Rattle.piton_run.specs.Whole.{BytesFor, Asked, Fitting, RanWhole, first_line, cell_line, lines_of, told, Answered, BrokenOff, AppendsPart, ConsumesPart};
 
 use scope::Ran;
+use std::io;
+use std::io::{ErrorKind, Read, Write};
 
 const BUDGET: u32 = 1000000;
 
@@ -18,7 +23,7 @@ const MOST_INPUT: usize = 65536;
 // ---- load and run
 
 // The lengths of the buffers, in bytes.
-#[derive(Drop)]
+#[derive(Clone, Copy)]
 struct Lengths {
     areas: usize,
     temporary: usize,
@@ -34,6 +39,7 @@ fn bytes_for(cells: usize, most: usize) -> usize
 }
 
 // What the image asks for, if it is accepted; if it is refused, that does not depend on what is lent.
+#[tactic(auto, using(crate::proofs::Running::asks))]
 fn asked(image: &[u8]) -> Lengths
     ensures { Asked image.now result }
 {
@@ -118,6 +124,7 @@ fn put_cell(out: &mut [u8], at: usize, areas: &[u8], i: usize) -> usize
     )
 }
 
+#[tactic(auto, using(crate::proofs::Lines::cell_by_cell))]
 fn put_cells(out: &mut [u8], at: usize, areas: &[u8]) -> usize
     requires { (at + 90112 ≤ length out.old) × (length areas.now ≤ 16384) }
     ensures { Wrote out.old at (lines_of (cells (length areas.now / 8) areas.now)) out.new result }
@@ -165,6 +172,7 @@ fn tell_image(
 }
 
 // "Input longer than 65,536 bytes counts as 11."
+#[tactic(auto, using(crate::proofs::Running::asks))]
 fn too_long() -> Ran
     ensures { result ≡ refused_run 11 0 no_registers }
 {
@@ -173,6 +181,7 @@ fn too_long() -> Ran
 }
 
 // Puts what is printed after this input at the start of out, and returns its length.
+#[tactic(auto, using(crate::proofs::Running::cuts, crate::proofs::Lines::wrote_too_long))]
 fn tell(
     input: &[u8],
     areas: &mut [u8],
@@ -201,14 +210,71 @@ fn tell(
     }
 }
 
+// ---- standard input and output
+
+// Reads until buf is full or the input ends, and returns how many bytes it put at the start of buf. A read that a signal interrupts is
+// tried again; one that fails otherwise ends it, as what was read till then is not the whole.
+fn read_full<R: Read>(from: &mut R, buf: &mut [u8]) -> io::Result<usize>
+    ensures within { IfOk result (λ n. IsPrefixLen n buf.new) }
+    ensures bytes { IfOk result
+        (λ n. Consumes (R.remaining from.old) (R.remaining from.new) (take n buf.new)) }
+    ensures end { IfOk result (λ n. n < length buf.new → IsAtEnd (R.remaining from.new)) }
+    ensures err { OnErr result (ConsumesPart (R.remaining from.old) (R.remaining from.new) buf.new) }
+{
+    let mut done = 0;
+    for _ in 0..u64::MAX {
+        if done >= buf.len() {
+            return Ok(done);
+        }
+        match from.read(&mut buf[done..]) {
+            Ok(0) => return Ok(done),
+            Ok(n) => done += n,
+            Err(e) => {
+                if e.kind() != ErrorKind::Interrupted {
+                    return Err(e);
+                }
+            }
+        }
+    }
+    Err(io::Error::from(ErrorKind::Interrupted))
+}
+
+// Writes all of buf. A write that a signal interrupts is tried again; after one that fails otherwise a beginning of buf is written.
+fn write_full<W: Write>(to: &mut W, buf: &[u8]) -> io::Result<()>
+    ensures ok { OnOk result (Appends (W.contents to.old) (W.contents to.new) buf.now) }
+    ensures err { OnErr result (AppendsPart (W.contents to.old) (W.contents to.new) buf.now) }
+{
+    let mut written = 0;
+    for _ in 0..u64::MAX {
+        if written >= buf.len() {
+            return Ok(());
+        }
+        match to.write(&buf[written..]) {
+            Ok(0) => return Err(io::Error::from(ErrorKind::WriteZero)),
+            Ok(n) => written += n,
+            Err(error) => {
+                if error.kind() != ErrorKind::Interrupted {
+                    return Err(error);
+                }
+            }
+        }
+    }
+    Err(io::Error::from(ErrorKind::Interrupted))
+}
+
 // One byte more than counts is enough to tell that there is more. The first line takes at most 88 bytes, and each of 2,048 cells 44.
-fn main() {
+fn serve<R: Read, W: Write>(from: &mut R, to: &mut W) -> io::Result<()>
+    ensures ok { OnOk result
+        (IfSome (R.remaining from.old) (λ input. Answered input (W.contents to.old) (W.contents to.new))) }
+    ensures err { OnErr result
+        (IfSome (R.remaining from.old) (λ input. BrokenOff input (W.contents to.old) (W.contents to.new))) }
+{
     let mut input = [0u8; 65537];
     let mut areas = [0u8; 16384];
     let mut temporary = [0u8; 8192];
     let mut control = [0u8; 16384];
     let mut out = [0u8; 90200];
-    let n = io::read_full(0, &mut input);
+    let n = read_full(from, &mut input)?;
     let end = tell(
         &input[..n],
         &mut areas,
@@ -216,5 +282,9 @@ fn main() {
         &mut control,
         &mut out,
     );
-    io::write_all(1, &out[..end]);
+    write_full(to, &out[..end])
+}
+
+fn main(rt: HostRuntime) -> io::Result<()> {
+    serve(&mut rt.stdin(), &mut rt.stdout())
 }

@@ -1,8 +1,9 @@
 #![tactic(auto)]
 
 // The run program: reads an image from standard input, loads and runs it, and prints what came of it.
-ghost use Rattle.std.specs.Prelude.{◌≡◌, ◌+◌, ◌*◌, ◌/◌, ◌≤◌, ◌<◌, length, take, IfOk, OnOk, OnErr, IfSome};
+ghost use Rattle.std.specs.Prelude.{◌≡◌, ◌≢◌, ◌+◌, ◌*◌, ◌/◌, ◌≤◌, ◌<◌, length, take, IfOk, OnOk, IfErr, OnErr, IfSome};
 ghost use Rattle.std.specs.Counts.{IsPrefixLen};
+ghost use Rattle.std.specs.IoError.{error_kind};
 ghost use Rattle.std.specs.Io.KnownBytes.{Appends, Consumes, IsAtEnd};
 ghost use Rattle.scope.specs.Cells.{cell_at};
 ghost use Rattle.scope.specs.Calls.{no_registers};
@@ -220,6 +221,7 @@ fn read_full<R: Read>(from: &mut R, buf: &mut [u8]) -> io::Result<usize>
         (λ n. Consumes (R.remaining from.old) (R.remaining from.new) (take n buf.new)) }
     ensures end { IfOk result (λ n. n < length buf.new → IsAtEnd (R.remaining from.new)) }
     ensures err { OnErr result (ConsumesPart (R.remaining from.old) (R.remaining from.new) buf.new) }
+    ensures retried { IfErr result (λ e. error_kind e ≢ ErrorKind.Interrupted) }
 {
     let mut done = 0;
     for _ in 0..u64::MAX {
@@ -236,13 +238,14 @@ fn read_full<R: Read>(from: &mut R, buf: &mut [u8]) -> io::Result<usize>
             }
         }
     }
-    Err(io::Error::from(ErrorKind::Interrupted))
+    Err(io::Error::from(ErrorKind::TimedOut))
 }
 
 // Writes all of buf. A write that a signal interrupts is tried again; after one that fails otherwise a beginning of buf is written.
 fn write_full<W: Write>(to: &mut W, buf: &[u8]) -> io::Result<()>
     ensures ok { OnOk result (Appends (W.contents to.old) (W.contents to.new) buf.now) }
     ensures err { OnErr result (AppendsPart (W.contents to.old) (W.contents to.new) buf.now) }
+    ensures retried { IfErr result (λ e. error_kind e ≢ ErrorKind.Interrupted) }
 {
     let mut written = 0;
     for _ in 0..u64::MAX {
@@ -259,7 +262,7 @@ fn write_full<W: Write>(to: &mut W, buf: &[u8]) -> io::Result<()>
             }
         }
     }
-    Err(io::Error::from(ErrorKind::Interrupted))
+    Err(io::Error::from(ErrorKind::TimedOut))
 }
 
 // One byte more than counts is enough to tell that there is more. The first line takes at most 88 bytes, and each of 2,048 cells 44.
@@ -268,6 +271,7 @@ fn serve<R: Read, W: Write>(from: &mut R, to: &mut W) -> io::Result<()>
         (IfSome (R.remaining from.old) (λ input. Answered input (W.contents to.old) (W.contents to.new))) }
     ensures err { OnErr result
         (IfSome (R.remaining from.old) (λ input. BrokenOff input (W.contents to.old) (W.contents to.new))) }
+    ensures retried { IfErr result (λ e. error_kind e ≢ ErrorKind.Interrupted) }
 {
     let mut input = [0u8; 65537];
     let mut areas = [0u8; 16384];

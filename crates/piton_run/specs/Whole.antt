@@ -1,4 +1,4 @@
--- The parts of a whole run: what load and run came to, and its lines. Nothing here has to be believed.
+-- The parts of a whole run: what load and run came to, and its lines. Nothing here has to be believed but, for what `serve` says, the last part.
 use Rattle.std.specs.Prelude.{◌≡◌, List, [], ◌∷◌, ◌++◌, ℕ, ◌*◌, ◌/◌, ◌≤◌, eqb, length, take}
 use Rattle.std.specs.declared.option.Option.{Option}
 use Rattle.std.specs.Io.KnownBytes.{Keeps, Appends, Consumes}

@@ -5,10 +5,9 @@ use Rattle.std.specs.Io.KnownBytes.{Keeps, Appends, Consumes}
 use Rattle.moore.specs.Objects.{choose}
 use Rattle.moore.specs.Machine.{P}
 use Rattle.scope.specs.declared.Cell.{Cell}
-use Rattle.scope.specs.declared.Checked.TheVariants.{Fine, Refused}
 use Rattle.scope.specs.declared.Ran.{Ran}
 use Rattle.scope.specs.Image.{data_cells, control_limit, temporary_limit}
-use Rattle.scope.specs.Checks.{image_says}
+use Rattle.scope.specs.Checks.{Fine, Refused, image_says}
 use Rattle.scope.specs.Holding.{text_of, initial, registers_of, data_words}
 use Rattle.scope.specs.Calls.{Count, answer_of, no_registers}
 use Rattle.scope.specs.Printing.{cell_lines, line, in_lines, budget, input_says, Writes}

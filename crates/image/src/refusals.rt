@@ -1,14 +1,13 @@
 // A test that can refuse. Tests in a row are joined by `?`; what they say together follows by the ruleset `said` of proofs/Said.antt.
-ghost use Rattle.std.specs.Prelude.{◌≡◌};
-ghost use Rattle.moore.specs.Objects.{choose};
-ghost use Rattle.scope.specs.Checks.{Fine, Refused};
+ghost use Rattle.std.specs.Prelude.{◌≡◌, [], ◌∷◌};
+ghost use Rattle.scope.specs.Checks.{test, first_failing};
 ghost use Rattle.image.specs.Said.{number_of, checked_of};
 
 use scope::{Fault, Refusal};
 
-#[tactic(auto, unfolding(moore::specs::Objects::choose))]
+#[tactic(auto, unfolding(scope::specs::Checks::first_failing, moore::specs::Objects::choose))]
 pub fn require(good: bool, fault: Fault, place: u32) -> Result<(), Refusal>
-    ensures { checked_of result ≡ choose good Fine (Refused (number_of fault) place) }
+    ensures { checked_of result ≡ first_failing (test (number_of fault) place good ∷ []) }
 {
     if good {
         Ok(())

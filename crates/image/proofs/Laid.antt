@@ -9,7 +9,8 @@ use Rattle.image.specs.declared.Counts.{Counts}
 use Rattle.image.specs.declared.Offsets.{Offsets}
 use Rattle.image.specs.Laid.{Laid, Counted, Ranged, Joined, counts_of, offsets_of}
 
-pub laid : (b : List ℕ) (at : Offsets) → 52 ≤ length b → word b 0 ≡ length b → Ranged b → Joined b → at ≡ offsets_of b → Laid b at
+pub laid : (b : List ℕ) (at : Offsets) → 52 ≤ length b → word b 0 ≡ length b → Ranged b → Joined b → at ≡ offsets_of b
+    → Laid b at
 laid b at l w r j e =
     let t : Laid b (offsets_of b) = record {
       programs_at = refl;

@@ -91,7 +91,12 @@ fn put_cell(out: &mut [u8], at: usize, areas: &[u8], i: usize) -> usize
     ensures { Wrote out.old at (cell_line i (cell_at areas.now i)) out.new result × (result ≤ at + 44) }
 {
     let c = cells::get(areas, i);
-    lines::put_numbers(out, at, &[i as u32, c.tag as u32, c.name as u32, c.value], b'\n')
+    lines::put_numbers(
+        out,
+        at,
+        &[i as u32, c.tag as u32, c.name as u32, c.value],
+        b'\n',
+    )
 }
 
 #[tactic(auto, using(crate::proofs::Lines::cell_by_cell))]

@@ -91,7 +91,12 @@ fn put_cell(out: &mut [u8], at: usize, areas: &[u8], i: usize) -> usize
     ensures { Wrote out.old at (cell_line i (cell_at areas.now i)) out.new result × (result ≤ at + 44) }
 {
     let c = cells::get(areas, i);
-    lines::put_numbers(out, at, &[i as u32, c.tag as u32, c.name as u32, c.value], b'\n')
+    lines::put_numbers(
+        out,
+        at,
+        &[i as u32, c.tag as u32, c.name as u32, c.value],
+        b'\n',
+    )
 }
 
 #[tactic(auto, using(crate::proofs::Lines::cell_by_cell))]
@@ -174,10 +179,12 @@ fn tell(
     }
 }
 
-// ---- standard input and output: std's `read_exact` and `write_all` do not say what an error leaves, so the loops stand here
+// ---- standard input and output
 
-// Reads until buf is full or the input ends, and returns how many bytes it put at the start of buf. A read that a signal interrupts is
-// tried again; one that fails otherwise ends it, as what was read till then is not the whole.
+// std's `read_exact` and `write_all` do not say what an error leaves, so the loops stand here.
+
+// Reads until buf is full or the input ends, and returns how many bytes it put at the start of buf. A read that a signal
+// interrupts is tried again; one that fails otherwise ends it, as what was read till then is not the whole.
 fn read_full<R: Read>(from: &mut R, buf: &mut [u8]) -> io::Result<usize>
     ensures within { IfOk result (λ n. IsPrefixLen n buf.new) }
     ensures bytes { IfOk result
@@ -204,7 +211,8 @@ fn read_full<R: Read>(from: &mut R, buf: &mut [u8]) -> io::Result<usize>
     Err(io::Error::from(ErrorKind::TimedOut))
 }
 
-// Writes all of buf. A write that a signal interrupts is tried again; after one that fails otherwise a beginning of buf is written.
+// Writes all of buf. A write that a signal interrupts is tried again; after one that fails otherwise a beginning of buf is
+// written.
 fn write_full<W: Write>(to: &mut W, buf: &[u8]) -> io::Result<()>
     ensures ok { OnOk result (Appends (W.contents to.old) (W.contents to.new) buf.now) }
     ensures err { OnErr result (AppendsPart (W.contents to.old) (W.contents to.new) buf.now) }
@@ -228,7 +236,8 @@ fn write_full<W: Write>(to: &mut W, buf: &[u8]) -> io::Result<()>
     Err(io::Error::from(ErrorKind::TimedOut))
 }
 
-// One byte more than counts is enough to tell that there is more. The first line takes at most 88 bytes, and each of 2,048 cells 44.
+// One byte more than counts is enough to tell that there is more. The first line takes at most 88 bytes, and each of 2,048
+// cells 44.
 fn serve<R: Read, W: Write>(from: &mut R, to: &mut W) -> io::Result<()>
     ensures ok { OnOk result
         (IfSome (R.remaining from.old) (λ input. Answered input (W.contents to.old) (W.contents to.new))) }

@@ -1,7 +1,8 @@
 -- A check's `Result` as what document 01 says of it.
 use Rattle.std.specs.Prelude.{ℕ, Result, Ok, Err}
 use Rattle.scope.specs.declared.Fault.{Fault}
-use Rattle.scope.specs.declared.Fault.TheVariants.{Length, Range, Section, Program, Area, Cell, Instruction, Buffer, State}
+use Rattle.scope.specs.declared.Fault.TheVariants.{Length, Range, Section, Program, Area, Cell, Instruction, Buffer}
+use Rattle.scope.specs.declared.Fault.TheVariants.{State}
 use Rattle.scope.specs.declared.Refusal.{Refusal}
 use Rattle.scope.specs.Checks.{Checked, Fine, Refused}
 

@@ -15,3 +15,10 @@ pub fn require(good: bool, fault: Fault, place: u32) -> Result<(), Refusal>
         Err(Refusal { fault, place })
     }
 }
+
+// The number of a fault in document 01's table of answers.
+pub fn number(fault: Fault) -> u32
+    ensures { result ≡ number_of fault }
+{
+    fault as u32
+}

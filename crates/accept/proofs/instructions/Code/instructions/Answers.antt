@@ -1,7 +1,7 @@
 use Rattle.std.proofs.Common.{rules}
 use Rattle.scope.specs.Checks.{code_tests}
 use Rattle.accept.proofs.Walks.{ends}
-use Rattle.accept.proofs.instructions.program_instructions.Goals as goal
+use Rattle.accept.proofs.instructions.Code.instructions.Goals as goal
 
 pub returns-in_err-require : goal.returns-in_err-require
 unfolding code_tests

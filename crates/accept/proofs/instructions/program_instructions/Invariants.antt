@@ -1,5 +1,0 @@
-use Rattle.accept.specs.Facts.{Passed, each, code_test}
-use Rattle.accept.proofs.instructions.program_instructions.Given as goal
-
-abbrev pub invariant-loop-o : goal.invariant-loop-o
-invariant-loop-o l = Passed (each (code_test l.layout.bytes.now l.p)) l.o

@@ -9,13 +9,14 @@ use lib.Dec.{eqb, leb}
 use lib.ListN.{length}
 use Rattle.moore.specs.Objects.{choose}
 use Rattle.scope.specs.Image.{word, programs, instructions, first_instruction, instruction_count}
-use Rattle.scope.specs.Checks.{Fine, Refused, test, first_failing, tab, sum, ranges, sections, program_ok, program_tests}
+use Rattle.scope.specs.Checks.{Fine, Refused, test, first_failing, tab, sum, ranges, sections, program_ok}
+use Rattle.scope.specs.Checks.{program_tests}
 use Rattle.scope.specs.Checks.{all_instructions, length_ok}
 use Rattle.scope.proofs.Bools.{and_both}
 use Rattle.scope.proofs.Formed.{sum_part}
 use Rattle.scope.proofs.Tests.{head_fine, append-fine, tab_fine}
 use Rattle.image.specs.Laid.{Ranged, Joined}
-use Rattle.accept.specs.Facts.{Placed}
+use Rattle.accept.specs.Facts.{Placed, program_test}
 
 -- ---- 11
 
@@ -35,7 +36,8 @@ pub short : (b : List ℕ) → length b < 52 → Refused 11 0 ≡ first_failing 
 unfolding first_failing choose
 short b h = rw (lt-leb 52 (length b) h)
 
-pub other : (b : List ℕ) → 52 ≤ length b → (word b 0 ≡ length b → ⊥) → Refused 11 0 ≡ first_failing (test 11 0 (length_ok b) ∷ [])
+pub other : (b : List ℕ) → 52 ≤ length b → (word b 0 ≡ length b → ⊥)
+    → Refused 11 0 ≡ first_failing (test 11 0 (length_ok b) ∷ [])
 unfolding first_failing choose
 other b h n = rw (le-leb 52 (length b) h, ne_eqb (word b 0) (length b) n)
 
@@ -46,8 +48,10 @@ total b e = (whole b e).1
 
 -- ---- 12
 
-within : (b : List ℕ) (k low high : ℕ) → leb low (word b k) && leb (word b k) high ≡ true → (low ≤ word b k) × (word b k ≤ high)
-within b k low high e = let t = and_both (leb low (word b k)) (leb (word b k) high) e in (leb-true _ _ t.0, leb-true _ _ t.1)
+within : (b : List ℕ) (k low high : ℕ) → leb low (word b k) && leb (word b k) high ≡ true
+    → (low ≤ word b k) × (word b k ≤ high)
+within b k low high e =
+    let t = and_both (leb low (word b k)) (leb (word b k) high) e in (leb-true _ _ t.0, leb-true _ _ t.1)
 
 pub ranged : (b : List ℕ) → Fine ≡ first_failing (ranges b) → Ranged b
 unfolding ranges
@@ -86,7 +90,14 @@ joined b e =
     let q8 = eqb-true (word b 8) _ t8.0 in
     let q9 = eqb-true (word b 9) _ t9.0 in
     let q10 = eqb-true (word b 10) _ t10.0 in
-    record { total = omega arith; programs = q6; areas = omega arith; instructions = omega arith; constants = omega arith; cells = omega arith }
+    record {
+      total = omega arith;
+      programs = q6;
+      areas = omega arith;
+      instructions = omega arith;
+      constants = omega arith;
+      cells = omega arith;
+    }
 
 -- ---- 14
 
@@ -94,16 +105,18 @@ pub placed : (b : List ℕ) → Fine ≡ first_failing (program_tests b) → Ran
 unfolding program_tests program_ok
 placed b e r = record { lie = lie; few = r.instructions.1 }
   where
-    t : (first_failing (tab (λ p. test 14 p (program_ok b p)) (programs b)) ≡ Fine) × (first_failing (test 14 (programs b) (all_instructions b) ∷ []) ≡ Fine)
-    t = append-fine (tab (λ p. test 14 p (program_ok b p)) (programs b)) (test 14 (programs b) (all_instructions b) ∷ []) (sym e)
+    t : (first_failing (tab (program_test b) (programs b)) ≡ Fine)
+        × (first_failing (test 14 (programs b) (all_instructions b) ∷ []) ≡ Fine)
+    t = append-fine (tab (program_test b) (programs b)) (test 14 (programs b) (all_instructions b) ∷ []) (sym e)
 
     all : sum (instruction_count b) (programs b) ≡ instructions b
     all = eqb-true _ _ (head_fine (all_instructions b) 14 (programs b) [] t.1).0
 
     lie : (p : ℕ) → p < programs b → first_instruction b p + instruction_count b p ≤ instructions b
     lie p l =
-        let q = tab_fine (λ p. test 14 p (program_ok b p)) (programs b) t.0 p l in
-        let first : first_instruction b p ≡ sum (instruction_count b) p = eqb-true _ _ (and_both (eqb (first_instruction b p) (sum (instruction_count b) p)) _ q).0 in
+        let q = tab_fine (program_test b) (programs b) t.0 p l in
+        let first : first_instruction b p ≡ sum (instruction_count b) p =
+        eqb-true _ _ (and_both (eqb (first_instruction b p) (sum (instruction_count b) p)) _ q).0 in
         omega (arith, all, first, sum_part (instruction_count b) (programs b) p l)
 
 pub ruleset passes = (total, ranged, joined, placed)

@@ -16,10 +16,6 @@ use Rattle.cells.specs.Rows.{Sized}
 use Rattle.calls.specs.Answers.{refused_run}
 use Rattle.piton_run.specs.declared.Lengths.{Lengths}
 
-pub record BytesFor (cells most r : ℕ) : Type 0 where
-  pub within : r ≤ 8 * most
-  pub right : cells ≤ most → r ≡ 8 * cells
-
 -- what the image asks for, if it is accepted, and never more than there is
 pub record Asked (b : List ℕ) (n : Lengths) : Type 0 where
   pub areas : n.areas ≤ 16384

@@ -1,7 +1,8 @@
 #![tactic(auto)]
 
 // The run program: reads an image from standard input, loads and runs it, and prints what came of it.
-ghost use Rattle.std.specs.Prelude.{◌≡◌, ◌≢◌, ◌+◌, ◌*◌, ◌/◌, ◌≤◌, ◌<◌, length, take, IfOk, OnOk, IfErr, OnErr, IfSome};
+// The three buffers are three arguments: the calls lend them apart, as they do to C.
+ghost use Rattle.std.specs.Prelude.{◌≡◌, ◌≢◌, ◌+◌, ◌*◌, ◌/◌, ◌≤◌, ◌<◌, length, take, IfOk, OnOk, IfErr, OnErr, IfSome, MatchOption};
 ghost use Rattle.std.specs.Counts.{IsPrefixLen};
 ghost use Rattle.std.specs.IoError.{error_kind};
 ghost use Rattle.std.specs.Io.KnownBytes.{Appends, Consumes, IsAtEnd};
@@ -11,9 +12,10 @@ ghost use Rattle.scope.specs.Printing.{Writes};
 ghost use Rattle.cells.specs.Rows.{cells};
 ghost use Rattle.lines.specs.Written.{Wrote};
 ghost use Rattle.calls.specs.Answers.{refused_run};
-ghost use Rattle.piton_run.specs.Whole.{BytesFor, Asked, Fitting, RanWhole, first_line, cell_line, lines_of, told, Answered, BrokenOff, AppendsPart, ConsumesPart};
+ghost use Rattle.piton_run.specs.Whole.{Asked, Fitting, RanWhole, first_line, cell_line, lines_of, told, Answered, BrokenOff, AppendsPart, ConsumesPart};
 
-use scope::Ran;
+use image::Header;
+use scope::{Fault, Ran, Status};
 use std::io;
 use std::io::{ErrorKind, Read, Write};
 
@@ -24,40 +26,24 @@ const MOST_INPUT: usize = 65536;
 // ---- load and run
 
 // The lengths of the buffers, in bytes.
-#[derive(Clone, Copy)]
+#[derive(Clone, Copy, Default)]
 struct Lengths {
     areas: usize,
     temporary: usize,
     control: usize,
 }
 
-// So many cells in bytes; nothing if no accepted image has so many.
-fn bytes_for(cells: usize, most: usize) -> usize
-    requires { most ≤ 2048 }
-    ensures { BytesFor cells most result }
-{
-    if cells <= most { 8 * cells } else { 0 }
-}
-
-// What the image asks for, if it is accepted; if it is refused, that does not depend on what is lent.
+// What the image asks for, if it has a header, and never more than an accepted one does.
 #[tactic(auto, using(crate::proofs::Running::asks))]
-fn asked(image: &[u8]) -> Lengths
-    ensures { Asked image.now result }
+fn asked(image: &[u8]) -> Option<Lengths>
+    ensures { MatchOption result (length image.now < 52) (λ n. Asked image.now n) }
 {
-    if 52 <= image.len() {
-        let n = image::read_counts(image);
-        Lengths {
-            areas: bytes_for(n.cells, 2048),
-            temporary: bytes_for(n.temporary, 1024),
-            control: bytes_for(n.control, 2048),
-        }
-    } else {
-        Lengths {
-            areas: 0,
-            temporary: 0,
-            control: 0,
-        }
-    }
+    let n = Header::of(image)?.counts();
+    Some(Lengths {
+        areas: 8 * n.cells.min(2048),
+        temporary: 8 * n.temporary.min(1024),
+        control: 8 * n.control.min(2048),
+    })
 }
 
 // A load and, unless it is refused, a run.
@@ -67,15 +53,10 @@ fn load_and_run(image: &[u8], areas: &mut [u8], temporary: &mut [u8], control: &
 {
     let loaded = piton::piton_load(image, areas, temporary, control);
     let registers = loaded.registers;
-    if registers.status == 0 {
+    if registers.status == Status::Run as u32 {
         piton::piton_run(image, registers, areas, temporary, control, BUDGET)
     } else {
-        Ran {
-            answer: loaded.answer,
-            place: loaded.place,
-            steps: 0,
-            registers,
-        }
+        calls::refused_run(loaded.answer, loaded.place, registers)
     }
 }
 
@@ -87,23 +68,19 @@ fn put_first(out: &mut [u8], ran: Ran) -> usize
     ensures { Wrote out.old 0 (first_line ran) out.new result × (result ≤ 88) }
 {
     let registers = ran.registers;
-    let offset = registers.offset;
-    let half = lines::put_four(
+    lines::put_numbers(
         out,
         0,
-        ran.answer,
-        ran.place,
-        ran.steps,
-        registers.status,
-        b' ',
-    );
-    lines::put_four(
-        out,
-        half,
-        registers.program,
-        offset.0,
-        registers.temporary,
-        registers.control,
+        &[
+            ran.answer,
+            ran.place,
+            ran.steps,
+            registers.status,
+            registers.program,
+            registers.offset.0,
+            registers.temporary,
+            registers.control,
+        ],
         b'\n',
     )
 }
@@ -114,13 +91,10 @@ fn put_cell(out: &mut [u8], at: usize, areas: &[u8], i: usize) -> usize
     ensures { Wrote out.old at (cell_line i (cell_at areas.now i)) out.new result × (result ≤ at + 44) }
 {
     let c = cells::get(areas, i);
-    lines::put_four(
+    lines::put_numbers(
         out,
         at,
-        i as u32,
-        c.tag as u32,
-        c.name as u32,
-        c.value,
+        &[i as u32, c.tag as u32, c.name as u32, c.value],
         b'\n',
     )
 }
@@ -130,12 +104,9 @@ fn put_cells(out: &mut [u8], at: usize, areas: &[u8]) -> usize
     requires { (at + 90112 ≤ length out.old) × (length areas.now ≤ 16384) }
     ensures { Wrote out.old at (lines_of (cells (length areas.now / 8) areas.now)) out.new result }
 {
-    let n = areas.len() / 8;
     let mut end = at;
-    let mut i = 0;
-    while i < n {
+    for i in 0..areas.len() / 8 {
         end = put_cell(out, end, areas, i);
-        i += 1;
     }
     end
 }
@@ -145,9 +116,8 @@ fn put_run(out: &mut [u8], ran: Ran, areas: &[u8]) -> usize
     requires { (90200 ≤ length out.old) × (length areas.now ≤ 16384) }
     ensures { Wrote out.old 0 (told ran areas.now) out.new result }
 {
-    let registers = ran.registers;
     let end = put_first(out, ran);
-    if registers.status == 3 {
+    if ran.registers.status == Status::Refused as u32 {
         end
     } else {
         put_cells(out, end, areas)
@@ -173,16 +143,16 @@ fn tell_image(
 }
 
 // "Input longer than 65,536 bytes counts as 11."
-#[tactic(auto, using(crate::proofs::Running::asks))]
+#[tactic(auto, using(crate::proofs::Running::refused_long))]
 fn too_long() -> Ran
     ensures { result ≡ refused_run 11 0 no_registers }
 {
-    let none = calls::refused_load(11, 0);
-    calls::refused_run(11, 0, none.registers)
+    let none = calls::refused_load(Fault::Length as u32, 0);
+    calls::refused_run(none.answer, none.place, none.registers)
 }
 
 // Puts what is printed after this input at the start of out, and returns its length.
-#[tactic(auto, using(crate::proofs::Running::cuts, crate::proofs::Lines::wrote_too_long))]
+#[tactic(auto, using(crate::proofs::Running::asks, crate::proofs::Running::cuts, crate::proofs::Lines::wrote_too_long))]
 fn tell(
     input: &[u8],
     areas: &mut [u8],
@@ -195,15 +165,13 @@ fn tell(
     ensures { IsPrefixLen result out.new × Writes input.now (take result out.new) }
 {
     if input.len() <= MOST_INPUT {
-        let n = asked(input);
-        let d = n.areas;
-        let t = n.temporary;
-        let c = n.control;
+        // An image with no header is refused, whatever is lent.
+        let n = asked(input).unwrap_or_default();
         tell_image(
             input,
-            &mut areas[..d],
-            &mut temporary[..t],
-            &mut control[..c],
+            &mut areas[..n.areas],
+            &mut temporary[..n.temporary],
+            &mut control[..n.control],
             out,
         )
     } else {
@@ -211,10 +179,12 @@ fn tell(
     }
 }
 
-// ---- standard input and output: std's `read_exact` and `write_all` do not say what an error leaves, so the loops stand here
+// ---- standard input and output
 
-// Reads until buf is full or the input ends, and returns how many bytes it put at the start of buf. A read that a signal interrupts is
-// tried again; one that fails otherwise ends it, as what was read till then is not the whole.
+// std's `read_exact` and `write_all` do not say what an error leaves, so the loops stand here.
+
+// Reads until buf is full or the input ends, and returns how many bytes it put at the start of buf. A read that a signal
+// interrupts is tried again; one that fails otherwise ends it, as what was read till then is not the whole.
 fn read_full<R: Read>(from: &mut R, buf: &mut [u8]) -> io::Result<usize>
     ensures within { IfOk result (λ n. IsPrefixLen n buf.new) }
     ensures bytes { IfOk result
@@ -241,7 +211,8 @@ fn read_full<R: Read>(from: &mut R, buf: &mut [u8]) -> io::Result<usize>
     Err(io::Error::from(ErrorKind::TimedOut))
 }
 
-// Writes all of buf. A write that a signal interrupts is tried again; after one that fails otherwise a beginning of buf is written.
+// Writes all of buf. A write that a signal interrupts is tried again; after one that fails otherwise a beginning of buf is
+// written.
 fn write_full<W: Write>(to: &mut W, buf: &[u8]) -> io::Result<()>
     ensures ok { OnOk result (Appends (W.contents to.old) (W.contents to.new) buf.now) }
     ensures err { OnErr result (AppendsPart (W.contents to.old) (W.contents to.new) buf.now) }
@@ -265,7 +236,8 @@ fn write_full<W: Write>(to: &mut W, buf: &[u8]) -> io::Result<()>
     Err(io::Error::from(ErrorKind::TimedOut))
 }
 
-// One byte more than counts is enough to tell that there is more. The first line takes at most 88 bytes, and each of 2,048 cells 44.
+// One byte more than counts is enough to tell that there is more. The first line takes at most 88 bytes, and each of 2,048
+// cells 44.
 fn serve<R: Read, W: Write>(from: &mut R, to: &mut W) -> io::Result<()>
     ensures ok { OnOk result
         (IfSome (R.remaining from.old) (λ input. Answered input (W.contents to.old) (W.contents to.new))) }

@@ -1,5 +1,4 @@
 -- The bytes are zeros.
-use Rattle.std.proofs.Common.{rules}
 use Rattle.states.proofs.Loading.{cleared}
 use Rattle.states.proofs.clear.Goals as goal
 

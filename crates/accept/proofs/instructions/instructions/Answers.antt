@@ -1,12 +1,9 @@
 use Rattle.std.proofs.Common.{rules}
-use Rattle.accept.specs.Facts.{all_codes}
 use Rattle.accept.proofs.Walks.{ends}
 use Rattle.accept.proofs.instructions.instructions.Goals as goal
 
 pub returns-in_err-instructions : goal.returns-in_err-instructions
-unfolding all_codes
 returns-in_err-instructions c = search (ends, rules)
 
 pub returns : goal.returns
-unfolding all_codes
 returns c = search (ends, rules)

@@ -6,4 +6,6 @@ use Rattle.accept.proofs.records.areas.Given as goal
 
 abbrev pub invariant-loop-a : goal.invariant-loop-a
 invariant-loop-a l =
-    Passed (each (area_test l.layout.bytes.now)) l.a × (l.earlier ≡ sum (area_length l.layout.bytes.now) l.a) × (l.earlier ≤ 65535 * l.a)
+    Passed (each (area_test l.layout.bytes.now)) l.a
+    × (l.earlier ≡ sum (area_length l.layout.bytes.now) l.a)
+    × (l.earlier ≤ 65535 * l.a)

@@ -6,4 +6,6 @@ use Rattle.accept.proofs.records.programs.Given as goal
 
 abbrev pub invariant-loop-p : goal.invariant-loop-p
 invariant-loop-p l =
-    Passed (each (program_test l.layout.bytes.now)) l.p × (l.earlier ≡ sum (instruction_count l.layout.bytes.now) l.p) × (l.earlier ≤ 65535 * l.p)
+    Passed (each (program_test l.layout.bytes.now)) l.p
+    × (l.earlier ≡ sum (instruction_count l.layout.bytes.now) l.p)
+    × (l.earlier ≤ 65535 * l.p)

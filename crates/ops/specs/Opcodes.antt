@@ -1,8 +1,7 @@
 -- The code of an instruction.
-use Rattle.std.specs.Prelude.{◌≡◌, ◌≢◌, ℕ, Result, MatchResult}
+use Rattle.std.specs.Prelude.{ℕ}
 use Rattle.ops.specs.declared.opcodes.Opcode.{Opcode}
 use Rattle.ops.specs.declared.opcodes.Opcode.TheVariants as O
-use Rattle.ops.specs.declared.opcodes.UnknownCode.{UnknownCode}
 
 abbrev pub number_of : Opcode → ℕ
 number_of O.Call = 1
@@ -41,7 +40,3 @@ number_of O.LtNat = 33
 number_of O.OrBool = 34
 number_of O.AndBool = 35
 number_of O.NotBool = 36
-
--- the instruction with this code, or an error for a code that none has: 0 and 37 to 255
-abbrev pub Decodes : ℕ → Result Opcode UnknownCode → Type 0
-Decodes code r = MatchResult r (λ o. number_of o ≡ code) (λ e. (e.0 ≡ code) × ((o : Opcode) → number_of o ≢ code))

@@ -1,8 +1,4 @@
 // The 36 instructions by their codes.
-ghost use Rattle.ops.specs.Opcodes.{Decodes};
-
-use std::error::Error;
-use std::fmt;
 
 // Named as document 01 names them; POP* is PopMany.
 #[derive(Clone, Copy, Debug, PartialEq, Eq)]
@@ -45,61 +41,52 @@ pub enum Opcode {
     NotBool = 36,
 }
 
-#[derive(Clone, Copy, Debug, PartialEq, Eq)]
-pub struct UnknownCode(pub u8);
+impl Opcode {
+    ghost use Rattle.std.specs.Prelude.{◌≡◌, ◌<◌, ◌≤◌};
+    ghost use Rattle.ops.specs.Opcodes.{number_of};
 
-impl TryFrom<u8> for Opcode {
-    type Error = UnknownCode;
-
-    ghost try_from_gives = { Decodes };
-
-    fn try_from(code: u8) -> Result<Self, UnknownCode> {
+    // The last arm stands for 36: one for codes that no instruction has would cost the dispatch of each step.
+    pub fn of(code: u8) -> Opcode
+        requires { (0 < code) × (code ≤ 36) }
+        ensures { number_of result ≡ code }
+    {
         match code {
-            1 => Ok(Opcode::Call),
-            2 => Ok(Opcode::Ret),
-            3 => Ok(Opcode::PushConstant),
-            4 => Ok(Opcode::PushLocal),
-            5 => Ok(Opcode::PushGlobal),
-            6 => Ok(Opcode::Pop),
-            7 => Ok(Opcode::PopMany),
-            8 => Ok(Opcode::PopLocal),
-            9 => Ok(Opcode::PopGlobal),
-            10 => Ok(Opcode::SetLocal),
-            11 => Ok(Opcode::SetGlobal),
-            12 => Ok(Opcode::Jump),
-            13 => Ok(Opcode::JumpCase),
-            14 => Ok(Opcode::TestNat),
-            15 => Ok(Opcode::TestInt),
-            16 => Ok(Opcode::TestBool),
-            17 => Ok(Opcode::NoOp),
-            18 => Ok(Opcode::Eq),
-            19 => Ok(Opcode::AddAddr),
-            20 => Ok(Opcode::SubAddr),
-            21 => Ok(Opcode::LtAddr),
-            22 => Ok(Opcode::Fetch),
-            23 => Ok(Opcode::Deposit),
-            24 => Ok(Opcode::AddInt),
-            25 => Ok(Opcode::SubInt),
-            26 => Ok(Opcode::NegInt),
-            27 => Ok(Opcode::LtInt),
-            28 => Ok(Opcode::IntToNat),
-            29 => Ok(Opcode::AddNat),
-            30 => Ok(Opcode::Add1Nat),
-            31 => Ok(Opcode::SubNat),
-            32 => Ok(Opcode::Sub1Nat),
-            33 => Ok(Opcode::LtNat),
-            34 => Ok(Opcode::OrBool),
-            35 => Ok(Opcode::AndBool),
-            36 => Ok(Opcode::NotBool),
-            _ => Err(UnknownCode(code)),
+            1 => Opcode::Call,
+            2 => Opcode::Ret,
+            3 => Opcode::PushConstant,
+            4 => Opcode::PushLocal,
+            5 => Opcode::PushGlobal,
+            6 => Opcode::Pop,
+            7 => Opcode::PopMany,
+            8 => Opcode::PopLocal,
+            9 => Opcode::PopGlobal,
+            10 => Opcode::SetLocal,
+            11 => Opcode::SetGlobal,
+            12 => Opcode::Jump,
+            13 => Opcode::JumpCase,
+            14 => Opcode::TestNat,
+            15 => Opcode::TestInt,
+            16 => Opcode::TestBool,
+            17 => Opcode::NoOp,
+            18 => Opcode::Eq,
+            19 => Opcode::AddAddr,
+            20 => Opcode::SubAddr,
+            21 => Opcode::LtAddr,
+            22 => Opcode::Fetch,
+            23 => Opcode::Deposit,
+            24 => Opcode::AddInt,
+            25 => Opcode::SubInt,
+            26 => Opcode::NegInt,
+            27 => Opcode::LtInt,
+            28 => Opcode::IntToNat,
+            29 => Opcode::AddNat,
+            30 => Opcode::Add1Nat,
+            31 => Opcode::SubNat,
+            32 => Opcode::Sub1Nat,
+            33 => Opcode::LtNat,
+            34 => Opcode::OrBool,
+            35 => Opcode::AndBool,
+            _ => Opcode::NotBool,
         }
     }
 }
-
-impl fmt::Display for UnknownCode {
-    fn fmt<W: fmt::Write>(&self, f: &mut fmt::Formatter<W>) -> fmt::Result {
-        write!(f, "no instruction has code {}", self.0)
-    }
-}
-
-impl Error for UnknownCode {}

@@ -1,6 +1,5 @@
 // The seven types of an object.
-ghost use Rattle.std.specs.Prelude.{◌≡◌};
-ghost use Rattle.cells.specs.Tags.{tag_of, Decodes};
+ghost use Rattle.cells.specs.Tags.{Decodes};
 
 use std::error::Error;
 use std::fmt;
@@ -45,9 +44,3 @@ impl fmt::Display for UnknownTag {
 }
 
 impl Error for UnknownTag {}
-
-pub fn number_of(t: Tag) -> u8
-    ensures { result ≡ tag_of t }
-{
-    t as u8
-}

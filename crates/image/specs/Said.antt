@@ -6,17 +6,17 @@ use Rattle.scope.specs.declared.Fault.TheVariants.{State}
 use Rattle.scope.specs.declared.Refusal.{Refusal}
 use Rattle.scope.specs.Checks.{Checked, Fine, Refused}
 
-abbrev pub number_of : Fault → ℕ
-number_of Length = 11
-number_of Range = 12
-number_of Section = 13
-number_of Program = 14
-number_of Area = 15
-number_of Cell = 16
-number_of Instruction = 17
-number_of Buffer = 18
-number_of State = 19
+abbrev pub fault_number : Fault → ℕ
+fault_number Length = 11
+fault_number Range = 12
+fault_number Section = 13
+fault_number Program = 14
+fault_number Area = 15
+fault_number Cell = 16
+fault_number Instruction = 17
+fault_number Buffer = 18
+fault_number State = 19
 
 abbrev pub checked_of : {T : Type 0} → Result T Refusal → Checked
 checked_of (Ok x) = Fine
-checked_of (Err e) = Refused (number_of e.fault) e.place
+checked_of (Err e) = Refused (fault_number e.fault) e.place

@@ -43,12 +43,12 @@ pub enum Opcode {
 
 impl Opcode {
     ghost use Rattle.std.specs.Prelude.{◌≡◌, ◌<◌, ◌≤◌};
-    ghost use Rattle.ops.specs.Opcodes.{number_of};
+    ghost use Rattle.ops.specs.Opcodes.{opcode_number};
 
     // The last arm stands for 36: one for codes that no instruction has would cost the dispatch of each step.
     pub fn of(code: u8) -> Opcode
         requires { (0 < code) × (code ≤ 36) }
-        ensures { number_of result ≡ code }
+        ensures { opcode_number result ≡ code }
     {
         match code {
             1 => Opcode::Call,

@@ -1,9 +1,6 @@
 // The seven types of an object.
 ghost use Rattle.cells.specs.Tags.{Decodes};
 
-use std::error::Error;
-use std::fmt;
-
 #[derive(Clone, Copy, Debug, PartialEq, Eq)]
 pub enum Tag {
     Nat = 1,
@@ -36,11 +33,3 @@ impl TryFrom<u8> for Tag {
         }
     }
 }
-
-impl fmt::Display for UnknownTag {
-    fn fmt<W: fmt::Write>(&self, f: &mut fmt::Formatter<W>) -> fmt::Result {
-        write!(f, "no type has tag {}", self.0)
-    }
-}
-
-impl Error for UnknownTag {}

@@ -85,7 +85,7 @@ fn put_first(out: &mut [u8], ran: Ran) -> usize
     )
 }
 
-// `number tag name value`
+// `number tag name value`. The end of what is written is returned: a cursor over `out` would have to promise that it keeps its buffer.
 fn put_cell(out: &mut [u8], at: usize, areas: &[u8], i: usize) -> usize
     requires { (at + 44 ≤ length out.old) × (8 * i + 8 ≤ length areas.now) × (i < 2048) }
     ensures { Wrote out.old at (cell_line i (cell_at areas.now i)) out.new result × (result ≤ at + 44) }
@@ -147,7 +147,7 @@ fn tell_image(
 fn too_long() -> Ran
     ensures { result ≡ refused_run 11 0 no_registers }
 {
-    let none = calls::refused_load(Fault::Length as u32, 0);
+    let none = calls::refused_load(image::number(Fault::Length), 0);
     calls::refused_run(none.answer, none.place, none.registers)
 }
 

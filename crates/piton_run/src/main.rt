@@ -181,7 +181,7 @@ fn tell(
 
 // ---- standard input and output
 
-// std's `read_exact` and `write_all` do not say what an error leaves, so the loops stand here.
+// std's `read_exact` and `write_all` do not say what an error leaves, so the loops stand here: two, since `Read` and `Write` share no trait.
 
 // Reads until buf is full or the input ends, and returns how many bytes it put at the start of buf. A read that a signal
 // interrupts is tried again; one that fails otherwise ends it, as what was read till then is not the whole.

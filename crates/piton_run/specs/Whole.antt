@@ -1,5 +1,5 @@
 -- The parts of a whole run: what load and run came to, and its lines. Nothing here has to be believed but, for what `serve` says, the last part.
-use Rattle.std.specs.Prelude.{◌≡◌, List, [], ◌∷◌, ◌++◌, ℕ, ◌*◌, ◌/◌, ◌≤◌, eqb, length, take}
+use Rattle.std.specs.Prelude.{◌≡◌, List, [], ◌∷◌, ◌++◌, ℕ, ◌*◌, ◌/◌, ◌≤◌, ◌<◌, eqb, length, take}
 use Rattle.std.specs.declared.option.Option.{Option}
 use Rattle.std.specs.Io.KnownBytes.{Keeps, Appends, Consumes}
 use Rattle.moore.specs.Objects.{choose}
@@ -15,6 +15,12 @@ use Rattle.cells.specs.Rows.{cells}
 use Rattle.cells.specs.Rows.{Sized}
 use Rattle.calls.specs.Answers.{refused_run}
 use Rattle.piton_run.specs.declared.Lengths.{Lengths}
+
+-- the bytes of a buffer that a count of the header asks for: an empty one where the count is out of range
+pub record BytesFor (cells most r : ℕ) : Type 0 where
+  pub within : r ≤ 8 * most
+  pub right : cells ≤ most → r ≡ 8 * cells
+  pub none : most < cells → r ≡ 0
 
 -- what the image asks for, if it is accepted, and never more than there is
 pub record Asked (b : List ℕ) (n : Lengths) : Type 0 where

@@ -12,7 +12,7 @@ ghost use Rattle.scope.specs.Printing.{Writes};
 ghost use Rattle.cells.specs.Rows.{cells};
 ghost use Rattle.lines.specs.Written.{Wrote};
 ghost use Rattle.calls.specs.Answers.{refused_run};
-ghost use Rattle.piton_run.specs.Whole.{Asked, Fitting, RanWhole, first_line, cell_line, lines_of, told, Answered, BrokenOff, AppendsPart, ConsumesPart};
+ghost use Rattle.piton_run.specs.Whole.{BytesFor, Asked, Fitting, RanWhole, first_line, cell_line, lines_of, told, Answered, BrokenOff, AppendsPart, ConsumesPart};
 
 use image::Header;
 use scope::{Fault, Ran, Status};
@@ -33,6 +33,14 @@ struct Lengths {
     control: usize,
 }
 
+// So many cells in bytes; nothing where an accepted image never has so many.
+fn bytes_for(cells: usize, most: usize) -> usize
+    requires { most ≤ 2048 }
+    ensures { BytesFor cells most result }
+{
+    if cells <= most { 8 * cells } else { 0 }
+}
+
 // What the image asks for, if it has a header, and never more than an accepted one does.
 #[tactic(auto, using(crate::proofs::Running::asks))]
 fn asked(image: &[u8]) -> Option<Lengths>
@@ -40,9 +48,9 @@ fn asked(image: &[u8]) -> Option<Lengths>
 {
     let n = Header::of(image)?.counts();
     Some(Lengths {
-        areas: 8 * n.cells.min(2048),
-        temporary: 8 * n.temporary.min(1024),
-        control: 8 * n.control.min(2048),
+        areas: bytes_for(n.cells, 2048),
+        temporary: bytes_for(n.temporary, 1024),
+        control: bytes_for(n.control, 2048),
     })
 }
 
@@ -91,10 +99,13 @@ fn put_cell(out: &mut [u8], at: usize, areas: &[u8], i: usize) -> usize
     ensures { Wrote out.old at (cell_line i (cell_at areas.now i)) out.new result × (result ≤ at + 44) }
 {
     let c = cells::get(areas, i);
-    lines::put_numbers(
+    lines::put_four(
         out,
         at,
-        &[i as u32, c.tag as u32, c.name as u32, c.value],
+        i as u32,
+        c.tag as u32,
+        c.name as u32,
+        c.value,
         b'\n',
     )
 }

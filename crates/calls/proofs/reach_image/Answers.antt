@@ -1,4 +1,3 @@
-use Rattle.std.proofs.Common.{rules}
 use Rattle.calls.proofs.Laws.{report_long}
 use Rattle.calls.proofs.reach_image.Goals as goal
 

@@ -1,5 +1,5 @@
 // Records of an image, by their section and their number in it.
-ghost use Rattle.std.specs.Prelude.{◌≡◌, ◌+◌, ◌*◌, ◌<◌, ◌≤◌, length, take, drop};
+ghost use Rattle.std.specs.Prelude.{◌≡◌, ◌+◌, ◌*◌, ◌<◌, ◌≤◌};
 ghost use Rattle.scope.specs.Cells.{Bytes};
 ghost use Rattle.scope.specs.Image.{programs, areas, instructions, constants, data_cells};
 ghost use Rattle.scope.specs.Image.{instruction_at, constant_at, data_cell_at};
@@ -43,8 +43,8 @@ impl Section {
     }
 }
 
-// "The image is read through its header's offsets wherever a record is wanted": its bytes and these offsets. It asks that the sections lie in
-// the bytes, and no more.
+// "The image is read through its header's offsets wherever a record is wanted": its bytes and these offsets. It asks
+// that the sections lie in the bytes, and no more.
 #[derive(Clone, Copy)]
 pub struct View<'a> {
     pub bytes: &'a [u8],

@@ -12,7 +12,8 @@ ghost use Rattle.scope.specs.Printing.{Writes};
 ghost use Rattle.cells.specs.Rows.{cells};
 ghost use Rattle.lines.specs.Written.{Wrote};
 ghost use Rattle.calls.specs.Answers.{refused_run};
-ghost use Rattle.piton_run.specs.Whole.{BytesFor, Asked, Fitting, RanWhole, first_line, cell_line, lines_of, told, Answered, BrokenOff, AppendsPart, ConsumesPart};
+ghost use Rattle.piton_run.specs.Whole.{BytesFor, Asked, Fitting, RanWhole, first_line, cell_line, lines_of, told};
+ghost use Rattle.piton_run.specs.Whole.{Answered, BrokenOff, AppendsPart, ConsumesPart};
 
 use image::Header;
 use scope::{Fault, Ran, Status};
